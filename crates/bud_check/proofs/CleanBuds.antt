@@ -19,7 +19,7 @@ use Rattle.leaf_map.specs.Kept.{Placed}
 use Rattle.journal_scan.specs.Journal.{AreLeaves, BudRead, IsLeafAt}
 use Rattle.journal_scan.specs.declared.bud_text.BudText.{BudText}
 use Rattle.sound_image.specs.Buds.{IsSoundBud, MayStandInBud}
-use Rattle.sound_image.specs.WrongLaws.{head_of}
+use Rattle.sound_image.specs.WrongLaws.{first_of_equal}
 use Rattle.bud_check.specs.Found.{hold_none, is_padding}
 
 -- ---- one node
@@ -112,7 +112,7 @@ pub record BeginsWith (text : BudText) (behind : List BudText) (rest : List BudR
 begins : (text : BudText) (behind : List BudText) (rest : List BudRead) → map (λ x. x.bud) rest ≡ text ∷ behind → AllByRecursion IsSoundBud rest → BeginsWith text behind rest
 begins text behind [] e h = absurd cc
 begins text behind (read ∷ more) e h =
-    let parts = head_of read.bud text (map (λ x. x.bud) more) behind e in
+    let parts = first_of_equal read.bud text (map (λ x. x.bud) more) behind e in
     record { read = read; more = more; is = refl; of = parts.0; sound = h.0; behind_of = parts.1; behind_sound = h.1 }
 
 pub so_far_next : (left texts behind : List BudText) (text : BudText) (clean : Bool) → left ≡ text ∷ behind → ((read : BudRead) → read.bud ≡ text → IsSoundBud read → clean ≡ is_empty read.nodes) → clean ≡ true → AreCleanSoFar left texts → AreCleanSoFar behind texts

@@ -16,7 +16,7 @@ use Rattle.sound_image.specs.Breaches.{IsWrongInBuds}
 use Rattle.sound_image.specs.Buds.{IsSoundBud, MayStandInBud, bud_text}
 use Rattle.sound_image.specs.Frames.{IsKnownAt}
 use Rattle.sound_image.specs.Wrong.{IsFirstWrong, IsOneOf, Wrong, differs, needs}
-use Rattle.sound_image.specs.WrongLaws.{first_or_behind, head_of, one_behind, one_first, one_of_none}
+use Rattle.sound_image.specs.WrongLaws.{first_or_behind, first_of_equal, one_behind, one_first, one_of_none}
 use Rattle.sound_image.specs.declared.breach.Breach.{Breach}
 use Rattle.sound_image.specs.declared.breach.Breach.TheVariants.{Super as InSuper, Feature as NeedsOne, NoMaster, Damaged}
 use Rattle.sound_image.specs.declared.rule.Rule.TheVariants as rules
@@ -52,7 +52,7 @@ pub all_sound : (texts : List BudText) (reads : List BudRead) → map (λ x. x.b
 all_sound texts [] e h none = tt
 all_sound [] (read ∷ reads) e h none = absurd cc
 all_sound (text ∷ texts) (read ∷ reads) e h none =
-    let parts = head_of read.bud text (map (λ x. x.bud) reads) texts e in (
+    let parts = first_of_equal read.bud text (map (λ x. x.bud) reads) texts e in (
       read_sound read h.0 (λ at w. none at (read.bud, one_first read.bud text texts parts.0, w)),
       all_sound texts reads parts.1 h.1 (λ at w. none at (w.0, one_behind w.0 text texts w.1, w.2)),
     )

@@ -15,7 +15,7 @@ use Rattle.journal_scan.specs.declared.bud_text.BudText.{BudText}
 use Rattle.sound_image.specs.Buds.{MayStandInBud}
 use Rattle.sound_image.specs.Frames.{NeedsFeature}
 use Rattle.sound_image.specs.Wrong.{IsOneOf, Wrong, differs, needs}
-use Rattle.sound_image.specs.WrongLaws.{at_end, front_or_end, in_front, one_of_none}
+use Rattle.sound_image.specs.WrongLaws.{is_one_at_end, front_or_end, in_front, one_of_none}
 use Rattle.bud_check.specs.Findings.{IsFirstFound, IsWrongEnd, IsWrongFound, IsWrongText, IsWrongTexts, first_of_two, may_stand}
 use Rattle.bud_check.specs.declared.bud_wrong.BudMisfit.TheVariants.{Needs, Unwanted}
 use Rattle.bud_check.specs.declared.bud_wrong.BudWrong.{BudWrong}
@@ -113,7 +113,7 @@ pub nodes_next : (leb : List ℕ) (lnum : ℕ) (nodes : List Found) (found : Fou
 nodes_next leb lnum nodes found first one next e h k =
     let R : Option BudWrong → Type 0 = λ o. IsFirstFound (IsWrongAmong leb lnum (nodes ++ found ∷ [])) o in
     subst R (sym e) (first_same (λ at. IsWrongAmong leb lnum nodes at ⊎ IsWrongFound leb lnum found at) (IsWrongAmong leb lnum (nodes ++ found ∷ [])) (first_of_two first one)
-    (λ at w. elim w [ inl (own, among, wrong) ↦ (own, in_front own found nodes among, wrong) | inr wrong ↦ (found, at_end found nodes, wrong) ])
+    (λ at w. elim w [ inl (own, among, wrong) ↦ (own, in_front own found nodes among, wrong) | inr wrong ↦ (found, is_one_at_end found nodes, wrong) ])
     (λ at w. elim (front_or_end w.0 found nodes w.1) [ inl among ↦ inl (w.0, among, w.2) | inr is ↦ inr (let P : Found → Type 0 = λ f. IsWrongFound leb lnum f at in subst P is w.2) ])
     (either_first (IsWrongAmong leb lnum nodes) (IsWrongFound leb lnum found) first one h k))
 
@@ -172,7 +172,7 @@ pub texts_next : (texts : List BudText) (bud : BudText) (first one next : Option
 texts_next texts bud first one next e h k =
     let R : Option BudWrong → Type 0 = λ o. IsFirstFound (IsWrongTexts (texts ++ bud ∷ [])) o in
     subst R (sym e) (first_same (λ at. IsWrongTexts texts at ⊎ IsWrongText bud at) (IsWrongTexts (texts ++ bud ∷ [])) (first_of_two first one)
-    (λ at w. elim w [ inl (own, among, wrong) ↦ (own, in_front own bud texts among, wrong) | inr wrong ↦ (bud, at_end bud texts, wrong) ])
+    (λ at w. elim w [ inl (own, among, wrong) ↦ (own, in_front own bud texts among, wrong) | inr wrong ↦ (bud, is_one_at_end bud texts, wrong) ])
     (λ at w. elim (front_or_end w.0 bud texts w.1) [ inl among ↦ inl (w.0, among, w.2) | inr is ↦ inr (let P : BudText → Type 0 = λ b. IsWrongText b at in subst P is w.2) ])
     (either_first (IsWrongTexts texts) (IsWrongText bud) first one h k))
 

@@ -1,7 +1,7 @@
 // The buds that references name.
 
 ghost use Rattle.std.specs.Prelude.{◌≡◌, IfOk, OnOk};
-ghost use Rattle.bud_log.specs.Buds.{buds_of, named};
+ghost use Rattle.bud_log.specs.Buds.{buds_of, named_also};
 
 use bud_log::HeadAt;
 use media_sys::RefNode;
@@ -23,7 +23,7 @@ pub(crate) fn named_buds(alloc: Global, references: &[RefNode]) -> Result<Vec<He
 
 // Names a bud.
 fn name_bud(buds: &mut Vec<HeadAt>, node: RefNode) -> Result<(), AllocError>
-    ensures { OnOk result (buds.new.items ≡ named buds.old.items node) }
+    ensures { OnOk result (buds.new.items ≡ named_also buds.old.items node) }
 {
     for index in 0..buds.len() {
         if buds[index].lnum == node.lnum {

@@ -9,20 +9,20 @@ use Rattle.media_sys.specs.SystemNode.{SystemNode, node_type}
 use Rattle.ubifs_base.specs.declared.node_type.NodeType.TheVariants as types
 use Rattle.leb_scan.specs.Text.{nodes_of, IsText}
 use Rattle.leb_scan.specs.declared.tail.Tail.TheVariants.{Clean}
-use Rattle.bud_log.specs.Buds.{named, buds_of}
+use Rattle.bud_log.specs.Buds.{named_also, buds_of}
 use Rattle.bud_log.specs.AfterCut.{IsLeftReady, lebs_to}
 use Rattle.bud_log.specs.AfterCutLaws.{chain_ready, goes_lnum, lebs_same}
 use Rattle.bud_log.specs.Below.{below_grown}
 use Rattle.bud_log.specs.Log.{IsLogLeb, references_of}
 use Rattle.bud_log.specs.LogText.{LogText}
-use Rattle.bud_log.specs.Writing.{references_in, AreSpelled, IsAmong, IsOlder, IsPassedOver, last_end, IsReady, IsMeant}
+use Rattle.bud_log.specs.Writing.{references_in, AreSpelled, IsAmong, IsOlder, IsPassedOver, last_end, IsLogReady, IsLogMeant}
 use Rattle.bud_log.specs.declared.head_at.HeadAt.{HeadAt}
 use Rattle.bud_log.specs.declared.log_end.LogEnd.{LogEnd}
 use Rattle.bud_log.specs.LogLaws.{among_log, chain_alike, below_more, passed-later}
 use Rattle.bud_log.specs.Chains.{last_among, last_first, last_more, Growth, Grows, chain_grown, references_grown, last_end_grown, among_grown, buds_behind}
 use Rattle.bud_log.specs.Grown.{grown, grown_text}
 use Rattle.bud_log.proofs.Parts.{part_first}
-use Rattle.bud_log.specs.References.{OneNode, some_references}
+use Rattle.bud_log.specs.References.{OneSystemNode, some_references}
 
 -- what a cut left, of which the log reads as before
 pub record IsQuiet (a : VolumeState) (geo : RawGeometry) (start number past : ℕ) (all : List LogText) (x : ℕ → List ℕ) : Type 0 where
@@ -35,9 +35,9 @@ abbrev pub IsLeftFirst : (ℕ → List ℕ) → RawGeometry → ℕ → ℕ → 
 IsLeftFirst x geo from old new number buds node nodes =
     IsLeftReady x geo from old number buds
     ⊎ (((node_type node ≡ types.CommitStart) × IsLeftReady x geo from old (number + 1) buds)
-    ⊎ ((n : ℕ) × (n ≤ length nodes) × (node_type node ≡ types.CommitStart → 0 < n) × IsLeftReady x geo from new (number + 1 + n) (fold named buds (references_in (node ∷ take n nodes)))))
+    ⊎ ((n : ℕ) × (n ≤ length nodes) × (node_type node ≡ types.CommitStart → 0 < n) × IsLeftReady x geo from new (number + 1 + n) (fold named_also buds (references_in (node ∷ take n nodes)))))
 
-pub quiet_ready : (a : VolumeState) (geo : RawGeometry) (from lnum offs number : ℕ) (buds : List HeadAt) (h : IsReady a geo from lnum offs number buds) (x : ℕ → List ℕ) → IsLogLeb geo from → IsQuiet a geo h.start number h.past (h.first ∷ h.more) x
+pub quiet_ready : (a : VolumeState) (geo : RawGeometry) (from lnum offs number : ℕ) (buds : List HeadAt) (h : IsLogReady a geo from lnum offs number buds) (x : ℕ → List ℕ) → IsLogLeb geo from → IsQuiet a geo h.start number h.past (h.first ∷ h.more) x
     → IsLeftReady x geo from (lebs_to geo from lnum) number buds
 quiet_ready a geo from lnum offs number buds h x f q =
     let most = lebs_to geo from lnum in
@@ -47,20 +47,20 @@ quiet_ready a geo from lnum offs number buds h x f q =
 
 -- in the same LEB
 first_here : (x : ℕ → List ℕ) (geo : RawGeometry) (from most number n : ℕ) (buds : List HeadAt) (node : SystemNode) (nodes : List SystemNode) → node_type node ≢ types.CommitStart → n ≤ length (node ∷ nodes)
-    → IsLeftReady x geo from most (number + n) (fold named buds (references_in (take n (node ∷ nodes)))) → IsLeftFirst x geo from most most number buds node nodes
+    → IsLeftReady x geo from most (number + n) (fold named_also buds (references_in (take n (node ∷ nodes)))) → IsLeftFirst x geo from most most number buds node nodes
 first_here x geo from most number zero buds node nodes other few left =
     let P : ℕ → Type 0 = λ m. IsLeftReady x geo from most m buds in
     let same : number + 0 ≡ number = omega arith in
     inl (subst P same left)
 first_here x geo from most number (suc n) buds node nodes other few left =
-    let P : ℕ → Type 0 = λ m. IsLeftReady x geo from most m (fold named buds (references_in (node ∷ take n nodes))) in
+    let P : ℕ → Type 0 = λ m. IsLeftReady x geo from most m (fold named_also buds (references_in (node ∷ take n nodes))) in
     let same : number + suc n ≡ number + 1 + n = omega arith in
     let less : suc n ≤ suc (length nodes) = few in
     inr (inr (n, omega (arith, less), (λ start. absurd (other start)), subst P same left))
 
 -- a call on a LEB that isn't read, which leaves nothing there that would be
-pub ready_works : (a b : VolumeState) (geo : RawGeometry) (from lnum offs number : ℕ) (buds : List HeadAt) (h : IsReady a geo from lnum offs number buds) (k : ℕ) (D : List ℕ → Type 0) → (IsAmong k (h.first ∷ h.more) → ⊥)
-    → ((c : List ℕ) → IsLogLeb geo k → D c → IsOlder h.start k c) → WorksOn a b k D → IsReady b geo from lnum offs number buds
+pub ready_works : (a b : VolumeState) (geo : RawGeometry) (from lnum offs number : ℕ) (buds : List HeadAt) (h : IsLogReady a geo from lnum offs number buds) (k : ℕ) (D : List ℕ → Type 0) → (IsAmong k (h.first ∷ h.more) → ⊥)
+    → ((c : List ℕ) → IsLogLeb geo k → D c → IsOlder h.start k c) → WorksOn a b k D → IsLogReady b geo from lnum offs number buds
 ready_works a b geo from lnum offs number buds h k D aside older w =
     let apart : (j : ℕ) → IsAmong j (h.first ∷ h.more) → j ≢ k = λ j there e. let P : ℕ → Type 0 = λ n. IsAmong n (h.first ∷ h.more) in aside (subst P e there) in
     record {
@@ -91,12 +91,12 @@ ends_among first (text ∷ more) lnum h =
     inr (subst P h (last_among first.ends text more (last_end first.ends (text ∷ more)) refl))
 
 -- the LEB in which the log ends is read
-pub end_among : (a : VolumeState) (geo : RawGeometry) (from lnum offs number : ℕ) (buds : List HeadAt) (h : IsReady a geo from lnum offs number buds) → IsAmong lnum (h.first ∷ h.more)
+pub end_among : (a : VolumeState) (geo : RawGeometry) (from lnum offs number : ℕ) (buds : List HeadAt) (h : IsLogReady a geo from lnum offs number buds) → IsAmong lnum (h.first ∷ h.more)
 end_among a geo from lnum offs number buds h = ends_among h.first h.more lnum (goes_lnum geo (last_end h.first.ends h.more) lnum offs h.last)
 
 -- what was torn behind the end of the log
-pub here_first : OneNode → (a : VolumeState) (geo : RawGeometry) (from lnum offs number len : ℕ) (buds : List HeadAt) (node : SystemNode) (nodes : List SystemNode) (h : IsReady a geo from lnum offs number buds) (x : ℕ → List ℕ) → node_type node ≢ types.CommitStart → last_end h.first.ends h.more ≡ record { lnum = lnum; offs = offs; tail = Clean } → IsLogLeb geo from
-    → ((c : List ℕ) → a.left_mapped lnum c → a.left_now lnum c) → AreSpelled number (node ∷ nodes) → ((k : ℕ) → IsLogLeb geo k → k ≢ lnum → a.left_now k (x k)) → WriteUnderWay a lnum offs len (x lnum) → IsMeant number offs (node ∷ nodes) (x lnum)
+pub here_first : OneSystemNode → (a : VolumeState) (geo : RawGeometry) (from lnum offs number len : ℕ) (buds : List HeadAt) (node : SystemNode) (nodes : List SystemNode) (h : IsLogReady a geo from lnum offs number buds) (x : ℕ → List ℕ) → node_type node ≢ types.CommitStart → last_end h.first.ends h.more ≡ record { lnum = lnum; offs = offs; tail = Clean } → IsLogLeb geo from
+    → ((c : List ℕ) → a.left_mapped lnum c → a.left_now lnum c) → AreSpelled number (node ∷ nodes) → ((k : ℕ) → IsLogLeb geo k → k ≢ lnum → a.left_now k (x k)) → WriteUnderWay a lnum offs len (x lnum) → IsLogMeant number offs (node ∷ nodes) (x lnum)
     → IsLeftFirst x geo from (lebs_to geo from lnum) (lebs_to geo from lnum) number buds node nodes
 here_first one a geo from lnum offs number len buds node nodes h x other_type clean f sub spelled others here meant =
     let most = lebs_to geo from lnum in
@@ -134,7 +134,7 @@ here_first one a geo from lnum offs number len buds node nodes h x other_type cl
           let ready = chain_ready x geo from h.start (number + part.0) h.past most (last_first g h.first h.more) (last_more g h.more) f chain (omega (arith, low)) below
           (λ k is none. passed-later h.start number (number + part.0) h.past k (x k) more (not_read k is (λ i. none ((among_grown k h.first h.more (nodes_of meant.items) some.0 ends same).1 i)))) (lebs_same geo from (last_end (last_first g h.first h.more).ends (last_more g h.more)).lnum lnum (ap (λ (e : LogEnd). e.lnum) (last_end_grown h.first h.more (nodes_of meant.items) some.0 ends))) in
           let P : List HeadAt → Type 0 = λ bs. IsLeftReady x geo from most (number + part.0) bs in
-          let e : buds_of (references_of (last_first g h.first h.more ∷ last_more g h.more)) ≡ fold named buds (references_in (take part.0 (node ∷ nodes))) =
-          ap buds_of (references_grown h.first h.more (nodes_of meant.items) some.0 ends) ∙ buds_behind (references_of all) some.0 ∙ ap (λ (b : List HeadAt). fold named b some.0) (sym h.buds_are) ∙ ap (fold named buds) part.2 in
+          let e : buds_of (references_of (last_first g h.first h.more ∷ last_more g h.more)) ≡ fold named_also buds (references_in (take part.0 (node ∷ nodes))) =
+          ap buds_of (references_grown h.first h.more (nodes_of meant.items) some.0 ends) ∙ buds_behind (references_of all) some.0 ∙ ap (λ (b : List HeadAt). fold named_also b some.0) (sym h.buds_are) ∙ ap (fold named_also buds) part.2 in
           first_here x geo from most number part.0 buds node nodes other_type part.1 (subst P e ready)
     ]

@@ -8,9 +8,9 @@ use Rattle.ubi_volume.specs.VolumeLaws.{Leaves-more}
 use Rattle.ubi_volume.specs.Frame.{Works}
 use Rattle.ubi_volume.specs.FrameLaws.{Works-none, Works-then, Works-may, Works-one, left-may}
 use Rattle.bud_log.specs.Log.{IsLogLeb, next_leb}
-use Rattle.bud_log.specs.LogAt.{LogAt, IsBetween, IsEnded, steps_to}
+use Rattle.bud_log.specs.LogAt.{LogAt, IsBetween, IsOfEarlierSection, steps_to}
 use Rattle.bud_log.specs.LogCalls.{UnmapUnderWay, EndUnderWay}
-use Rattle.bud_log.specs.Writing.{IsAmong, IsOlder, IsReady}
+use Rattle.bud_log.specs.Writing.{IsAmong, IsOlder, IsLogReady}
 use Rattle.bud_log.specs.AfterCut.{IsLeftReady, lebs_to}
 use Rattle.bud_log.specs.declared.head_at.HeadAt.{HeadAt}
 use Rattle.bud_log.specs.LogLaws.{chain_alike, next_in}
@@ -18,7 +18,7 @@ use Rattle.bud_log.proofs.Appended.{IsQuiet, quiet_ready}
 use Rattle.bud_log.specs.Chains.{past_other}
 use Rattle.bud_log.specs.HeldLaws.{IsReady-past}
 use Rattle.bud_log.proofs.Opened.{blank_older}
-use Rattle.bud_log.specs.RingRuns.{left_of}
+use Rattle.bud_log.specs.RingRuns.{lebs_left_of}
 use Rattle.bud_log.proofs.Steps.{steps_next, steps_none, steps_small, same_steps, before_left}
 
 -- the LEBs up to this one are unmapped
@@ -94,20 +94,20 @@ unmapped_all a b geo from to lnum h e k is =
     h.unwritten k is.in_log (subst P (sym e) is.before)
 
 -- a LEB of a section before isn't read from the present one on
-ended_aside : (a : VolumeState) (at : LogAt) (number k : ℕ) (buds : List HeadAt) (h : IsReady a at.geo at.section at.lnum at.offs number buds) → IsLogLeb at.geo at.first → IsLogLeb at.geo at.section → IsLogLeb at.geo at.lnum
-    → steps_to at.geo at.first at.section ≤ steps_to at.geo at.first at.lnum → IsEnded at k → IsAmong k (h.first ∷ h.more) → ⊥
+ended_aside : (a : VolumeState) (at : LogAt) (number k : ℕ) (buds : List HeadAt) (h : IsLogReady a at.geo at.section at.lnum at.offs number buds) → IsLogLeb at.geo at.first → IsLogLeb at.geo at.section → IsLogLeb at.geo at.lnum
+    → steps_to at.geo at.first at.section ≤ steps_to at.geo at.first at.lnum → IsOfEarlierSection at k → IsAmong k (h.first ∷ h.more) → ⊥
 ended_aside a at number k buds h f s l way is (inl same) =
     let P : ℕ → Type 0 = λ n. steps_to at.geo at.first n < steps_to at.geo at.first at.section in
     let less = subst P (same ∙ h.chain.is_first.here) is.before in
     absurd (omega (arith, less))
 ended_aside a at number k buds h f s l way is (inr there) =
     let less = past_other a.holds at.geo at.section h.start (next_leb at.geo at.section) h.past k h.more s h.chain.run (next_in at.geo at.section s) there in
-    let P : ℕ → Type 0 = λ n. left_of at.geo at.section n < left_of at.geo at.section k in
+    let P : ℕ → Type 0 = λ n. lebs_left_of at.geo at.section n < lebs_left_of at.geo at.section k in
     let again = subst P (IsReady-past a at.geo at.section at.lnum at.offs number buds h) less in
     let other = before_left at.geo at.first at.section at.lnum k f s l is.in_log is.before way in
     absurd (omega (arith, again, other))
 
-ended_quiet : (a : VolumeState) (at : LogAt) (number : ℕ) (buds : List HeadAt) (h : IsReady a at.geo at.section at.lnum at.offs number buds) (x : ℕ → List ℕ) → IsLogLeb at.geo at.first → IsLogLeb at.geo at.section → IsLogLeb at.geo at.lnum
+ended_quiet : (a : VolumeState) (at : LogAt) (number : ℕ) (buds : List HeadAt) (h : IsLogReady a at.geo at.section at.lnum at.offs number buds) (x : ℕ → List ℕ) → IsLogLeb at.geo at.first → IsLogLeb at.geo at.section → IsLogLeb at.geo at.lnum
     → steps_to at.geo at.first at.section ≤ steps_to at.geo at.first at.lnum → EndUnderWay a at x → IsQuiet a at.geo h.start number h.past (h.first ∷ h.more) x
 ended_quiet a at number buds h x f s l way each = record {
   read = λ k there. elim (each k) [ inl now ↦ h.settled k there (x k) now | inr (is, e) ↦ absurd (ended_aside a at number k buds h f s l way is there) ];
@@ -115,26 +115,26 @@ ended_quiet a at number buds h x f s l way each = record {
 }
 
 -- at every moment the log reads as before
-pub ended_moment : (a b : VolumeState) (at : LogAt) (number : ℕ) (buds : List HeadAt) → IsReady a at.geo at.section at.lnum at.offs number buds → IsLogLeb at.geo at.first → IsLogLeb at.geo at.section → IsLogLeb at.geo at.lnum
+pub ended_moment : (a b : VolumeState) (at : LogAt) (number : ℕ) (buds : List HeadAt) → IsLogReady a at.geo at.section at.lnum at.offs number buds → IsLogLeb at.geo at.first → IsLogLeb at.geo at.section → IsLogLeb at.geo at.lnum
     → steps_to at.geo at.first at.section ≤ steps_to at.geo at.first at.lnum → Leaves a b (EndUnderWay a at) → Leaves a b (λ left. IsLeftReady left at.geo at.section (lebs_to at.geo at.section at.lnum) number buds)
 ended_moment a b at number buds h f s l way time =
     Leaves-more a b (EndUnderWay a at) (λ left. IsLeftReady left at.geo at.section (lebs_to at.geo at.section at.lnum) number buds)
     (λ x each. quiet_ready a at.geo at.section at.lnum at.offs number buds h x s (ended_quiet a at number buds h x f s l way each)) time
 
 -- what a cut leaves of each LEB afterwards
-pub ended_each : (a b : VolumeState) (at : LogAt) → ((k : ℕ) → b.left_now k (b.holds k)) → Works a b (IsEnded at) (EndUnderWay a at) → (k : ℕ) (x : List ℕ) → b.left_now k x → UnmapUnderWay a at.geo at.first at.section k x
+pub ended_each : (a b : VolumeState) (at : LogAt) → ((k : ℕ) → b.left_now k (b.holds k)) → Works a b (IsOfEarlierSection at) (EndUnderWay a at) → (k : ℕ) (x : List ℕ) → b.left_now k x → UnmapUnderWay a at.geo at.first at.section k x
 ended_each a b at held w k x left =
-    let one = Works-one a b (IsEnded at) (EndUnderWay a at) held w k x left in
+    let one = Works-one a b (IsOfEarlierSection at) (EndUnderWay a at) held w k x left in
     let P : List ℕ → Type 0 = λ y. UnmapUnderWay a at.geo at.first at.section k y in
     subst P one.1 (one.2 k)
 
 -- and the volume stays ready
-pub ended_ready : (a b : VolumeState) (at : LogAt) (number : ℕ) (buds : List HeadAt) → IsReady a at.geo at.section at.lnum at.offs number buds → IsLogLeb at.geo at.first → IsLogLeb at.geo at.section → IsLogLeb at.geo at.lnum
-    → steps_to at.geo at.first at.section ≤ steps_to at.geo at.first at.lnum → ((k : ℕ) → b.left_now k (b.holds k)) → Works a b (IsEnded at) (EndUnderWay a at) → IsReady b at.geo at.section at.lnum at.offs number buds
+pub ended_ready : (a b : VolumeState) (at : LogAt) (number : ℕ) (buds : List HeadAt) → IsLogReady a at.geo at.section at.lnum at.offs number buds → IsLogLeb at.geo at.first → IsLogLeb at.geo at.section → IsLogLeb at.geo at.lnum
+    → steps_to at.geo at.first at.section ≤ steps_to at.geo at.first at.lnum → ((k : ℕ) → b.left_now k (b.holds k)) → Works a b (IsOfEarlierSection at) (EndUnderWay a at) → IsLogReady b at.geo at.section at.lnum at.offs number buds
 ended_ready a b at number buds h f s l way held w =
     let each = ended_each a b at held w in
     let all = h.first ∷ h.more in
-    let aside : (k : ℕ) → IsAmong k all → IsEnded at k → ⊥ = λ k there is. ended_aside a at number k buds h f s l way is there in
+    let aside : (k : ℕ) → IsAmong k all → IsOfEarlierSection at k → ⊥ = λ k there is. ended_aside a at number k buds h f s l way is there in
     record {
       start = h.start;
       first = h.first;

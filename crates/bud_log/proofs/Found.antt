@@ -6,13 +6,13 @@ use Rattle.ubifs_base.specs.NodeLaws.{IsBytes}
 use Rattle.ubifs_base.specs.declared.raw_geometry.RawGeometry.{RawGeometry}
 use Rattle.ubi_volume.specs.Volume.{VolumeState, SameShape, Keeps}
 use Rattle.ubi_volume.specs.declared.fault.AreaFault.{AreaFault}
-use Rattle.bud_log.specs.AfterCut.{opened_at, OpensReady}
+use Rattle.bud_log.specs.AfterCut.{log_opened_at, OpensReady}
 use Rattle.bud_log.specs.AfterCutLaws.{IsHeldLog-opens, IsHeldLog-next}
 use Rattle.bud_log.specs.Log.{IsLogLeb, Log, IsLog, log_of}
 use Rattle.bud_log.specs.LogAt.{LogAt, IsAt}
 use Rattle.bud_log.specs.LogLaws.{IsReady-same}
 use Rattle.bud_log.specs.OpenedLaws.{IsHeldLog-at}
-use Rattle.bud_log.specs.Writing.{offs_behind, IsReady}
+use Rattle.bud_log.specs.Writing.{offs_behind, IsLogReady}
 use Rattle.bud_log.specs.declared.log_read.LogRead.{LogRead}
 
 -- contents are at most one log
@@ -54,15 +54,15 @@ opens_ready one old new geo from read r is = λ number log held.
     let lebs = r.lebs in
     let keeps = r.keeps in
     let e = one old.holds geo from log (log_of read) r.ring r.bytes held.ready.is_log is in
-    let A : Log → Type 0 = λ l. IsAt old (opened_at geo from l.ends) in (
+    let A : Log → Type 0 = λ l. IsAt old (log_opened_at geo from l.ends) in (
       sym e,
       λ next most.
-          let P : Log → Type 0 = λ l. IsReady old geo from l.ends.lnum (offs_behind geo l.ends) next l.buds in
+          let P : Log → Type 0 = λ l. IsLogReady old geo from l.ends.lnum (offs_behind geo l.ends) next l.buds in
           let N : Log → Type 0 = λ l. (number ≤ next) ⊎ (l.sqnum ≤ next) in
           IsReady-same old new geo from read.lnum (offs_behind geo (log_of read).ends) next read.buds.items r.ring
           (λ k in_log. record { holds = keeps.holds k; written = keeps.written k; left = λ c. (keeps.left k c).0; mapped = λ c. (keeps.left_mapped k c).0 })
           (subst P e (IsHeldLog-opens old geo from next log r.geometry (IsHeldLog-next old geo from number next log (subst N (sym e) most) held))),
-      λ size unit is_open. at_still old new (opened_at geo from (log_of read).ends) r.shape keeps (subst A e (IsHeldLog-at old geo from number log r.geometry r.ring lebs size unit r.long held is_open)),
+      λ size unit is_open. at_still old new (log_opened_at geo from (log_of read).ends) r.shape keeps (subst A e (IsHeldLog-at old geo from number log r.geometry r.ring lebs size unit r.long held is_open)),
     )
 
 -- whatever is answered

@@ -13,7 +13,7 @@ use Rattle.leb_scan.specs.TypeLaws.{cases_type}
 use Rattle.leb_scan.specs.declared.found.Found.{Found}
 use Rattle.leb_scan.specs.declared.item.Item.{Item}
 use Rattle.leb_scan.specs.declared.tail.Tail.TheVariants.{Clean}
-use Rattle.bud_log.specs.LogText.{Refer, first_of}
+use Rattle.bud_log.specs.LogText.{Refer, first_found_node}
 use Rattle.bud_log.specs.MeantNodes.{node_at, node_front, laid_items, laid_stand}
 use Rattle.bud_log.specs.Writing.{reference_in, references_in, AreSpelled, laid}
 use Rattle.bud_log.proofs.Parts.{FirstIs, none_in, one_in}
@@ -21,7 +21,7 @@ use Rattle.bud_log.proofs.Parts.{FirstIs, none_in, one_in}
 -- the first of the nodes found, if any were laid, stands there
 abbrev pub FirstStands : List ℕ → List SystemNode → List Found → Type 0
 FirstStands leb [] found = ⊤
-FirstStands leb (node ∷ nodes) found = (first : Found) × (first_of found ≡ Some first) × IsSystemNode (take first.len (drop first.offs leb)) first.sqnum first.group node
+FirstStands leb (node ∷ nodes) found = (first : Found) × (first_found_node found ≡ Some first) × IsSystemNode (take first.len (drop first.offs leb)) first.sqnum first.group node
 
 -- from a place on, a text has these nodes
 pub record AreLaid (leb : List ℕ) (place end number : ℕ) (nodes : List SystemNode) : Type 0 where

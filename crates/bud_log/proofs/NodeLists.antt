@@ -7,10 +7,10 @@ use Rattle.leb_scan.specs.declared.found.Found.{Found}
 use Rattle.leb_scan.specs.declared.tail.Tail.{Tail}
 use Rattle.leb_scan.specs.Text.{IsLast, tail_at}
 use Rattle.leb_scan.specs.Gathered.{IsGathered, gathered_end}
-use Rattle.bud_log.specs.LogText.{first_of, at_start, begins_with, others, greatest_found, is_one_start, is_start_alone}
+use Rattle.bud_log.specs.LogText.{first_found_node, at_start, begins_with, others, greatest_found, is_one_start, is_start_alone}
 use Rattle.bud_log.specs.Seen.{earlier_of, IsSeen}
 
-pub first_behind : (nodes : List Found) (found : Found) → first_of (nodes ++ found ∷ []) ≡ earlier_of (first_of nodes) found
+pub first_behind : (nodes : List Found) (found : Found) → first_found_node (nodes ++ found ∷ []) ≡ earlier_of (first_found_node nodes) found
 first_behind [] found = refl
 first_behind (first ∷ nodes) found = refl
 
@@ -41,7 +41,7 @@ greatest_behind nodes found sqnum next now next_is = next_is ∙ ap (λ (n : ℕ
 
 -- what the loop over a text keeps
 pub record IsSoFar (nodes : List Found) (first : Option Found) (empty alone : Bool) (sqnum : ℕ) : Type 0 where
-  pub first_is : first ≡ first_of nodes
+  pub first_is : first ≡ first_found_node nodes
   pub empty_is : empty ≡ is_none (others nodes)
   pub alone_is : alone ≡ is_start_alone nodes
   pub sqnum_is : sqnum ≡ greatest_found nodes

@@ -14,12 +14,12 @@ use Rattle.leb_scan.specs.Gaps.{gap_length}
 use Rattle.leb_scan.specs.Text.{is_blank, IsText}
 use Rattle.leb_scan.specs.TextLaws.{blank_drop, blank_replicate}
 use Rattle.leb_scan.specs.declared.tail.Tail.TheVariants.{Clean}
-use Rattle.bud_log.specs.Buds.{named}
+use Rattle.bud_log.specs.Buds.{named_also}
 use Rattle.bud_log.specs.Log.{IsLogLeb, next_leb, Run}
 use Rattle.bud_log.specs.LogAt.{LogAt, has_room, lnum_at, offs_at, references_to, head_nodes, section_nodes}
-use Rattle.bud_log.specs.LogCalls.{IsBegun, IsAdded, AddDuring, OpenUnderWay, StartUnderWay}
-use Rattle.bud_log.specs.LogText.{LogText, IsTextOf}
-use Rattle.bud_log.specs.Writing.{references_in, AreSpelled, AreNodes, laid, IsAmong, IsOlder, IsChain, last_end, GoesOn, IsReady, IsMeant, IsOldOrMeant}
+use Rattle.bud_log.specs.LogCalls.{IsLebBegun, IsAdded, AddDuring, OpenUnderWay, StartUnderWay}
+use Rattle.bud_log.specs.LogText.{LogText, IsLogTextOf}
+use Rattle.bud_log.specs.Writing.{references_in, AreSpelled, AreNodes, laid, IsAmong, IsOlder, IsChain, last_end, GoesOn, IsLogReady, IsLogMeant, IsOldOrMeant}
 use Rattle.bud_log.specs.AfterCut.{IsLeftReady, IsLeftOpened, IsLeftStarted, lebs_to}
 use Rattle.bud_log.specs.AfterCutLaws.{IsReady-left, IsReadyIn-later}
 use Rattle.bud_log.specs.declared.head_at.HeadAt.{HeadAt}
@@ -30,7 +30,7 @@ use Rattle.bud_log.proofs.Appended.{IsLeftFirst, ready_works, here_first}
 use Rattle.bud_log.proofs.Laid.{AreLaid, laid_there}
 use Rattle.bud_log.proofs.ReadyAgain.{ready_here, ready_next, next_first}
 use Rattle.bud_log.proofs.Spelled.{as_many, first_references}
-use Rattle.bud_log.specs.References.{OneNode}
+use Rattle.bud_log.specs.References.{OneSystemNode}
 
 -- an unwritten LEB begins with no node
 pub blank_older : (start lnum size : ℕ) → IsOlder start lnum (filled size [])
@@ -38,20 +38,20 @@ blank_older start lnum size = blank-older start lnum (filled size []) (blank_rep
 
 -- the last text
 run_end : (c : ℕ → List ℕ) (geo : RawGeometry) (from number l past : ℕ) (text : LogText) (texts : List LogText) (old : LogEnd) → Run c geo from number l (text ∷ texts) past → last_end text.ends texts ≡ old
-    → (t : LogText) × IsTextOf (c old.lnum) old.lnum t × (t.ends ≡ old)
+    → (t : LogText) × IsLogTextOf (c old.lnum) old.lnum t × (t.ends ≡ old)
 run_end c geo from number l past text [] old h last =
-    let P : ℕ → Type 0 = λ n. IsTextOf (c n) n text in
+    let P : ℕ → Type 0 = λ n. IsLogTextOf (c n) n text in
     (text, subst P (sym h.1.here ∙ ap (λ (z : LogEnd). z.lnum) last) h.1, last)
 run_end c geo from number l past text (other ∷ texts) old h last = run_end c geo from number (next_leb geo l) past other texts old h.3 last
 
-pub chain_end : (c : ℕ → List ℕ) (geo : RawGeometry) (from start past : ℕ) (first : LogText) (more : List LogText) (old : LogEnd) → IsChain c geo from start first more past → last_end first.ends more ≡ old → (t : LogText) × IsTextOf (c old.lnum) old.lnum t × (t.ends ≡ old)
+pub chain_end : (c : ℕ → List ℕ) (geo : RawGeometry) (from start past : ℕ) (first : LogText) (more : List LogText) (old : LogEnd) → IsChain c geo from start first more past → last_end first.ends more ≡ old → (t : LogText) × IsLogTextOf (c old.lnum) old.lnum t × (t.ends ≡ old)
 chain_end c geo from start past first [] old h last =
-    let P : ℕ → Type 0 = λ n. IsTextOf (c n) n first in
+    let P : ℕ → Type 0 = λ n. IsLogTextOf (c n) n first in
     (first, subst P (sym h.is_first.here ∙ ap (λ (z : LogEnd). z.lnum) last) h.is_first, last)
 chain_end c geo from start past first (text ∷ texts) old h last = run_end c geo from start (next_leb geo from) past text texts old h.run last
 
 -- nothing is written behind the end
-pub end_blank : (a : VolumeState) (geo : RawGeometry) (from lnum offs number : ℕ) (buds : List HeadAt) (h : IsReady a geo from lnum offs number buds) → last_end h.first.ends h.more ≡ record { lnum = lnum; offs = offs; tail = Clean } → is_blank (drop offs (a.holds lnum)) ≡ true
+pub end_blank : (a : VolumeState) (geo : RawGeometry) (from lnum offs number : ℕ) (buds : List HeadAt) (h : IsLogReady a geo from lnum offs number buds) → last_end h.first.ends h.more ≡ record { lnum = lnum; offs = offs; tail = Clean } → is_blank (drop offs (a.holds lnum)) ≡ true
 end_blank a geo from lnum offs number buds h clean =
     let old : LogEnd = record { lnum = lnum; offs = offs; tail = Clean } in
     let t = chain_end a.holds geo from h.start h.past h.first h.more old h.chain clean in
@@ -90,7 +90,7 @@ put_front old bytes offs room =
     (sym (ap (take offs) all ∙ take_at front (bytes ++ back) offs at), omega (arith, l1, l2, l3, at, room))
 
 -- and at the start of a LEB that was unmapped
-pub begun_laid : (a b : VolumeState) (there number : ℕ) (bytes : List ℕ) (nodes : List SystemNode) → IsBegun a b there bytes → AreNodes bytes number nodes → 0 + length bytes ≤ a.leb_size → AreLaid (b.holds there) 0 (0 + length bytes) number nodes
+pub begun_laid : (a b : VolumeState) (there number : ℕ) (bytes : List ℕ) (nodes : List SystemNode) → IsLebBegun a b there bytes → AreNodes bytes number nodes → 0 + length bytes ≤ a.leb_size → AreLaid (b.holds there) 0 (0 + length bytes) number nodes
 begun_laid a b there number bytes nodes w are room =
     let old : List ℕ = filled a.leb_size [] in
     let size : length old ≡ a.leb_size - 0 = length-replicate (a.leb_size - 0) 255 in
@@ -103,12 +103,12 @@ abbrev pub HasMapped : VolumeState → Type 0
 HasMapped state = (k : ℕ) (bytes : List ℕ) → state.left_mapped k bytes → state.left_now k bytes
 
 -- a LEB outside of the log is none that is read
-aside_of : (a : VolumeState) (geo : RawGeometry) (from lnum offs number bud : ℕ) (buds : List HeadAt) (h : IsReady a geo from lnum offs number buds) → IsLogLeb geo from → (IsLogLeb geo bud → ⊥) → IsAmong bud (h.first ∷ h.more) → ⊥
+aside_of : (a : VolumeState) (geo : RawGeometry) (from lnum offs number bud : ℕ) (buds : List HeadAt) (h : IsLogReady a geo from lnum offs number buds) → IsLogLeb geo from → (IsLogLeb geo bud → ⊥) → IsAmong bud (h.first ∷ h.more) → ⊥
 aside_of a geo from lnum offs number bud buds h f out there = out (among_log a.holds geo from h.start h.past bud h.first h.more f h.chain there)
 
 -- the bud's LEB was unmapped and mapped, whatever the answer
-pub bud_ready : (a b : VolumeState) (geo : RawGeometry) (from lnum offs number bud : ℕ) (buds : List HeadAt) (D : List ℕ → Type 0) → IsReady a geo from lnum offs number buds → IsLogLeb geo from → (IsLogLeb geo bud → ⊥) → WorksOn a b bud D
-    → IsReady b geo from lnum offs number buds
+pub bud_ready : (a b : VolumeState) (geo : RawGeometry) (from lnum offs number bud : ℕ) (buds : List HeadAt) (D : List ℕ → Type 0) → IsLogReady a geo from lnum offs number buds → IsLogLeb geo from → (IsLogLeb geo bud → ⊥) → WorksOn a b bud D
+    → IsLogReady b geo from lnum offs number buds
 bud_ready a b geo from lnum offs number bud buds D h f out w = ready_works a b geo from lnum offs number buds h bud D (aside_of a geo from lnum offs number bud buds h f out) (λ c is d. absurd (out is)) w
 
 -- where a reference has room the last text has a clean end
@@ -117,10 +117,10 @@ clean_end at last roomy (inl clean) = clean
 clean_end at last roomy (inr full) = let both : true ≡ false = sym roomy ∙ full.2 in absurd cc
 
 -- nodes were added to the log
-pub added_ready : (here : Bool) (a b : VolumeState) (at : LogAt) (from number next : ℕ) (buds : List HeadAt) (node : SystemNode) (nodes : List SystemNode) (bytes : List ℕ) → IsReady a at.geo from at.lnum at.offs number buds → IsLogLeb at.geo from
+pub added_ready : (here : Bool) (a b : VolumeState) (at : LogAt) (from number next : ℕ) (buds : List HeadAt) (node : SystemNode) (nodes : List SystemNode) (bytes : List ℕ) → IsLogReady a at.geo from at.lnum at.offs number buds → IsLogLeb at.geo from
     → (here ≡ true → has_room at ≡ true) → (here ≡ false → next_leb at.geo at.lnum ≢ from) → number < next → HasMapped a → IsAdded here a b at bytes → WorksOn a b (lnum_at here at) (AddDuring here a at (length bytes)) → AreNodes bytes number (node ∷ nodes)
     → length (a.holds at.lnum) ≡ a.leb_size → offs_at here at + length bytes ≤ a.leb_size → at.offs % 8 ≡ 0
-    → IsReady b at.geo from (lnum_at here at) (offs_at here at + length bytes) next (fold named buds (references_in (node ∷ nodes)))
+    → IsLogReady b at.geo from (lnum_at here at) (offs_at here at + length bytes) next (fold named_also buds (references_in (node ∷ nodes)))
 added_ready true a b at from number next buds node nodes bytes h f roomy free later sub w works are size room even =
     let old = a.holds at.lnum in
     let fits : at.offs + length bytes ≤ length old = omega (arith, room, size) in
@@ -134,15 +134,15 @@ added_ready false a b at from number next buds node nodes bytes h f roomy free l
     let there = next_leb at.geo at.lnum in
     let e : h.past ≡ there = IsReady-past a at.geo from at.lnum at.offs number buds h in
     let laid = begun_laid a b there number bytes (node ∷ nodes) w are room in
-    let B : ℕ → Type 0 = λ n. IsBegun a b n bytes in
+    let B : ℕ → Type 0 = λ n. IsLebBegun a b n bytes in
     let N : ℕ → Type 0 = λ n. n ≢ from in
     let W : ℕ → Type 0 = λ n. WorksOn a b n (AddDuring false a at (length bytes)) in
     let L : ℕ → Type 0 = λ n. AreLaid (b.holds n) 0 (0 + length bytes) number (node ∷ nodes) in
-    let R : ℕ → Type 0 = λ n. IsReady b at.geo from n (0 + length bytes) next (fold named buds (references_in (node ∷ nodes))) in
+    let R : ℕ → Type 0 = λ n. IsLogReady b at.geo from n (0 + length bytes) next (fold named_also buds (references_in (node ∷ nodes))) in
     subst R e (ready_next a b at.geo from at.lnum at.offs number next (0 + length bytes) buds node nodes bytes (AddDuring false a at (length bytes)) h f (subst N (sym e) (free refl)) later (subst B (sym e) w) (subst W (sym e) works) (subst L (sym e) laid))
 
 -- and whatever a cut leaves on the way
-pub added_first : OneNode → (here : Bool) (a : VolumeState) (at : LogAt) (from number n : ℕ) (buds : List HeadAt) (node : SystemNode) (nodes : List SystemNode) (x : ℕ → List ℕ) → (here ≡ true → node_type node ≢ types.CommitStart) → IsReady a at.geo from at.lnum at.offs number buds → IsLogLeb at.geo from
+pub added_first : OneSystemNode → (here : Bool) (a : VolumeState) (at : LogAt) (from number n : ℕ) (buds : List HeadAt) (node : SystemNode) (nodes : List SystemNode) (x : ℕ → List ℕ) → (here ≡ true → node_type node ≢ types.CommitStart) → IsLogReady a at.geo from at.lnum at.offs number buds → IsLogLeb at.geo from
     → (here ≡ true → has_room at ≡ true) → (here ≡ false → next_leb at.geo at.lnum ≢ from) → HasMapped a → AreSpelled number (node ∷ nodes) → ((k : ℕ) → IsLogLeb at.geo k → k ≢ lnum_at here at → a.left_now k (x k)) → a.left_now (lnum_at here at) (x (lnum_at here at)) ⊎ AddDuring here a at n (x (lnum_at here at))
     → IsOldOrMeant a (lnum_at here at) (offs_at here at) number (node ∷ nodes) (x (lnum_at here at)) → IsLeftFirst x at.geo from (lebs_to at.geo from at.lnum) (lebs_to at.geo from (lnum_at here at)) number buds node nodes
 added_first one here a at from number n buds node nodes x other h f roomy free sub spelled others there (inl old) =
@@ -158,7 +158,7 @@ added_first one false a at from number n buds node nodes x other h f roomy free 
     let e : h.past ≡ next_leb at.geo at.lnum = IsReady-past a at.geo from at.lnum at.offs number buds h in
     let N : ℕ → Type 0 = λ m. m ≢ from in
     let O : ℕ → Type 0 = λ m. (k : ℕ) → IsLogLeb at.geo k → k ≢ m → a.left_now k (x k) in
-    let M : ℕ → Type 0 = λ m. IsMeant number 0 (node ∷ nodes) (x m) in
+    let M : ℕ → Type 0 = λ m. IsLogMeant number 0 (node ∷ nodes) (x m) in
     let L : ℕ → Type 0 = λ m. IsLeftFirst x at.geo from (lebs_to at.geo from at.lnum) (lebs_to at.geo from m) number buds node nodes in
     subst L e (next_first one a at.geo from at.lnum at.offs number buds node nodes h x f (subst N (sym e) (free refl)) spelled (subst O (sym e) others) (subst M (sym e) meant))
 
@@ -170,15 +170,15 @@ opened_left here x at from number buds node e (inr (inl lone)) blank = let start
 opened_left here x at from number buds node e (inr (inr first)) blank =
     let few = first.1 in
     let none : first.0 ≡ 0 = omega (arith, few) in
-    let P : ℕ → Type 0 = λ n. IsLeftReady x at.geo from (lebs_to at.geo from (lnum_at here at)) (number + 1 + n) (fold named buds (references_in (reference node ∷ take n []))) in
-    let Q : ℕ → Type 0 = λ n. IsLeftReady x at.geo from (lebs_to at.geo from (lnum_at here at)) n (named buds node) in
-    let H : Bool → Type 0 = λ r. IsLeftReady x at.geo from (lebs_to at.geo from (lnum_at r at)) (number + 1) (named buds node) in
+    let P : ℕ → Type 0 = λ n. IsLeftReady x at.geo from (lebs_to at.geo from (lnum_at here at)) (number + 1 + n) (fold named_also buds (references_in (reference node ∷ take n []))) in
+    let Q : ℕ → Type 0 = λ n. IsLeftReady x at.geo from (lebs_to at.geo from (lnum_at here at)) n (named_also buds node) in
+    let H : Bool → Type 0 = λ r. IsLeftReady x at.geo from (lebs_to at.geo from (lnum_at r at)) (number + 1) (named_also buds node) in
     let same : number + 1 + 0 ≡ number + 1 = omega arith in
     let left : P 0 = subst P none first.3 in
     inr (subst H e (subst Q same left), blank)
 
 -- a bud was opened, or the call failed on the way
-pub opened_moment : OneNode → (here : Bool) (a b : VolumeState) (at : LogAt) (from number n : ℕ) (buds : List HeadAt) (node : RefNode) → here ≡ has_room at → IsReady a at.geo from at.lnum at.offs number buds → IsLogLeb at.geo from
+pub opened_moment : OneSystemNode → (here : Bool) (a b : VolumeState) (at : LogAt) (from number n : ℕ) (buds : List HeadAt) (node : RefNode) → here ≡ has_room at → IsLogReady a at.geo from at.lnum at.offs number buds → IsLogLeb at.geo from
     → (here ≡ false → next_leb at.geo at.lnum ≢ from) → HasMapped a → AreSpelled number (reference node ∷ []) → (IsLogLeb at.geo node.lnum → ⊥) → Leaves a b (OpenUnderWay here a at node.lnum n)
     → Leaves a b (λ left. IsOldOrMeant a (lnum_at here at) (offs_at here at) number (reference node ∷ []) (left (lnum_at here at)) → IsLeftOpened left at from number buds node)
 opened_moment one here a b at from number n buds node e h f free sub spelled out time =
@@ -210,14 +210,14 @@ started_left x at from number cmt_no buds heads (inr (inl lone)) = inl lone.1
 started_left x at from number cmt_no buds heads (inr (inr first)) =
     let n = first.0 in
     let few = first.1 in
-    let Q : List RefNode → Type 0 = λ r. IsLeftReady x at.geo from (lebs_to at.geo from (next_leb at.geo at.lnum)) (number + 1 + n) (fold named buds r) in
+    let Q : List RefNode → Type 0 = λ r. IsLeftReady x at.geo from (lebs_to at.geo from (next_leb at.geo at.lnum)) (number + 1 + n) (fold named_also buds r) in
     let count = as_many heads in
     let nodes = count.0 in
     let references = count.1 in
     inr (n, first.2 refl, omega (arith, few, nodes, references), subst Q (first_references n heads) first.3)
 
 -- a section was started, or the call failed on the way
-pub started_moment : OneNode → (a b : VolumeState) (at : LogAt) (from number n cmt_no : ℕ) (buds heads : List HeadAt) → IsReady a at.geo from at.lnum at.offs number buds → IsLogLeb at.geo from → next_leb at.geo at.lnum ≢ from → HasMapped a → AreSpelled number (section_nodes cmt_no heads)
+pub started_moment : OneSystemNode → (a b : VolumeState) (at : LogAt) (from number n cmt_no : ℕ) (buds heads : List HeadAt) → IsLogReady a at.geo from at.lnum at.offs number buds → IsLogLeb at.geo from → next_leb at.geo at.lnum ≢ from → HasMapped a → AreSpelled number (section_nodes cmt_no heads)
     → Leaves a b (StartUnderWay a at n)
     → Leaves a b (λ left. IsOldOrMeant a (next_leb at.geo at.lnum) 0 number (section_nodes cmt_no heads) (left (next_leb at.geo at.lnum)) → IsLeftStarted left at from number buds (references_to heads))
 started_moment one a b at from number n cmt_no buds heads h f free sub spelled time =

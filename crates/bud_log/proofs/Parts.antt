@@ -9,14 +9,14 @@ use Rattle.leb_scan.specs.TypeLaws.{type_same}
 use Rattle.media_sys.specs.SystemNode.{SystemNode, padding, superblock, master, reference, index, commit_start, orphans, node_type, written, IsRef}
 use Rattle.media_sys.specs.declared.ref_node.RefNode.{RefNode}
 use Rattle.leb_scan.specs.declared.found.Found.{Found}
-use Rattle.bud_log.specs.LogText.{Refer, first_of, others, is_one_start, is_start_alone}
-use Rattle.bud_log.specs.Writing.{reference_in, references_in, IsSpelled, AreSpelled, IsWhole, ArePart}
-use Rattle.bud_log.specs.References.{OneNode, others_skip, others_keep, one_parts}
+use Rattle.bud_log.specs.LogText.{Refer, first_found_node, others, is_one_start, is_start_alone}
+use Rattle.bud_log.specs.Writing.{reference_in, references_in, IsNodeSpelled, AreSpelled, IsFoundWhole, ArePart}
+use Rattle.bud_log.specs.References.{OneSystemNode, others_skip, others_keep, one_parts}
 
 -- the first of the nodes found, if any were laid
 abbrev pub FirstIs : ℕ → ℕ → List SystemNode → List Found → Type 0
 FirstIs place number [] found = ⊤
-FirstIs place number (node ∷ nodes) found = (first : Found) × (first_of found ≡ Some first) × (first.offs ≡ place) × (first.sqnum ≡ number + 1) × (first.kind ≡ node_type node)
+FirstIs place number (node ∷ nodes) found = (first : Found) × (first_found_node found ≡ Some first) × (first.offs ≡ place) × (first.sqnum ≡ number + 1) × (first.kind ≡ node_type node)
 
 -- a node of another type is no reference
 pub none_in : (node : SystemNode) → node_type node ≢ types.Reference → reference_in node ≡ []
@@ -47,7 +47,7 @@ abbrev pub FirstBehind : SystemNode → List SystemNode → List RefNode → Lis
 FirstBehind node more references found = (n : ℕ) × (n ≤ length more) × (references ≡ references_in (node ∷ take n more)) × (n ≡ 0 → others found ≡ [])
 
 -- a node was found whole, and behind it the first of others
-whole_first : OneNode → (left : List ℕ) (f : Found) (found : List Found) (place number : ℕ) (node : SystemNode) (more : List SystemNode) (references : List RefNode) → IsSpelled number node → IsWhole left place number node f → Refer left (f ∷ found) references
+whole_first : OneSystemNode → (left : List ℕ) (f : Found) (found : List Found) (place number : ℕ) (node : SystemNode) (more : List SystemNode) (references : List RefNode) → IsNodeSpelled number node → IsFoundWhole left place number node f → Refer left (f ∷ found) references
     → ((rest : List RefNode) → Refer left found rest → FirstIn more rest found) → FirstBehind node more references found
 whole_first one left f found place number node more references spelled whole (inl (other, h)) behind =
     let rest = behind references h in
@@ -65,7 +65,7 @@ whole_first one left f found place number node more references spelled whole (in
     (rest.0, rest.1, subst S same (e ∙ ap (λ (rs : List RefNode). r ∷ rs) rest.2), rest.3)
 
 -- what was found has the references of the first nodes
-pub part_first : OneNode → (left : List ℕ) (found : List Found) (place number : ℕ) (nodes : List SystemNode) (references : List RefNode) → AreSpelled number nodes → ArePart left place number nodes found → Refer left found references → FirstIn nodes references found
+pub part_first : OneSystemNode → (left : List ℕ) (found : List Found) (place number : ℕ) (nodes : List SystemNode) (references : List RefNode) → AreSpelled number nodes → ArePart left place number nodes found → Refer left found references → FirstIn nodes references found
 part_first one left [] place number nodes references spelled part h = (0, omega arith, h, λ e. refl)
 part_first one left (f ∷ found) place number [] references spelled part (inl (other, h)) =
     let rest = part_first one left found place number [] references spelled part.1 h in
@@ -91,7 +91,7 @@ Begins place number node more references found =
     × (is_start_alone found ≡ true → node_type node ≡ types.CommitStart)
     × ((n : ℕ) × (n ≤ length more) × (references ≡ references_in (node ∷ take n more)) × (n ≡ 0 → node_type node ≡ types.CommitStart → is_start_alone found ≡ true))
 
-pub part_begins : OneNode → (left : List ℕ) (found : List Found) (place number : ℕ) (node : SystemNode) (more : List SystemNode) (references : List RefNode) → AreSpelled number (node ∷ more) → ArePart left place number (node ∷ more) found → Refer left found references
+pub part_begins : OneSystemNode → (left : List ℕ) (found : List Found) (place number : ℕ) (node : SystemNode) (more : List SystemNode) (references : List RefNode) → AreSpelled number (node ∷ more) → ArePart left place number (node ∷ more) found → Refer left found references
     → (found ≡ []) ⊎ Begins place number node more references found
 part_begins one left [] place number node more references spelled part h = inl refl
 part_begins one left (f ∷ found) place number node more references spelled part h =

@@ -10,30 +10,30 @@ use Rattle.ubifs_base.specs.declared.node_type.NodeType.TheVariants as types
 use Rattle.leb_scan.specs.Text.{nodes_of, IsText}
 use Rattle.leb_scan.specs.declared.found.Found.{Found}
 use Rattle.leb_scan.specs.declared.tail.Tail.TheVariants.{Clean}
-use Rattle.bud_log.specs.Buds.{named, buds_of}
-use Rattle.bud_log.specs.Log.{IsLogLeb, next_leb, references_of, end_of}
-use Rattle.bud_log.specs.LogCalls.{IsBegun}
-use Rattle.bud_log.specs.LogText.{LogText, IsTextOf, IsStartAt, at_start, begins_with, start_of, BeginsCommit, StartsCommit, is_later, is_start_alone}
-use Rattle.bud_log.specs.Writing.{references_in, IsAmong, IsPassedOver, AreOthersOlder, AreSpelled, last_end, IsReady, IsMeant}
+use Rattle.bud_log.specs.Buds.{named_also, buds_of}
+use Rattle.bud_log.specs.Log.{IsLogLeb, next_leb, references_of, log_end_of}
+use Rattle.bud_log.specs.LogCalls.{IsLebBegun}
+use Rattle.bud_log.specs.LogText.{LogText, IsLogTextOf, IsStartAt, at_start, begins_with, start_of, BeginsCommit, StartsCommit, is_later, is_start_alone}
+use Rattle.bud_log.specs.Writing.{references_in, IsAmong, IsPassedOver, AreOthersOlder, AreSpelled, last_end, IsLogReady, IsLogMeant}
 use Rattle.bud_log.specs.declared.head_at.HeadAt.{HeadAt}
 use Rattle.bud_log.specs.declared.log_end.LogEnd.{LogEnd}
 use Rattle.bud_log.specs.LogLaws.{among_log, below_more, chain_alike, older_more, passed-later}
 use Rattle.bud_log.proofs.Appended.{IsQuiet, IsLeftFirst, quiet_ready, end_among}
 use Rattle.bud_log.specs.AfterCut.{IsLeftReady, lebs_to}
 use Rattle.bud_log.specs.AfterCutLaws.{older_ready, chain_ready, goes_lnum, lebs_same}
-use Rattle.bud_log.specs.RingRuns.{last_of, end_then}
+use Rattle.bud_log.specs.RingRuns.{last_end_of, end_then}
 use Rattle.bud_log.specs.Chains.{past_free, chain_more, last_first, last_more, Growth, Grows, chain_grown, references_grown, last_end_grown, among_grown, buds_behind, references_added, last_end_added, among_added}
 use Rattle.bud_log.specs.Grown.{grown, grown_text}
 use Rattle.bud_log.proofs.Laid.{AreLaid, FirstStands}
 use Rattle.bud_log.specs.LogAnswers.{StartsWith}
 use Rattle.bud_log.specs.Below.{below_last, below_grown}
 use Rattle.bud_log.proofs.Parts.{FirstIs, part_begins}
-use Rattle.bud_log.specs.References.{OneNode, some_references}
+use Rattle.bud_log.specs.References.{OneSystemNode, some_references}
 
 -- nodes behind the end of the log
-pub ready_here : (a b : VolumeState) (geo : RawGeometry) (from lnum offs number next end len : ℕ) (buds : List HeadAt) (nodes : List SystemNode) (bytes : List ℕ) (h : IsReady a geo from lnum offs number buds) → last_end h.first.ends h.more ≡ record { lnum = lnum; offs = offs; tail = Clean } → IsLogLeb geo from
+pub ready_here : (a b : VolumeState) (geo : RawGeometry) (from lnum offs number next end len : ℕ) (buds : List HeadAt) (nodes : List SystemNode) (bytes : List ℕ) (h : IsLogReady a geo from lnum offs number buds) → last_end h.first.ends h.more ≡ record { lnum = lnum; offs = offs; tail = Clean } → IsLogLeb geo from
     → ((c : List ℕ) → a.left_mapped lnum c → a.left_now lnum c) → number ≤ next → IsWritten a b lnum offs bytes → WorksOn a b lnum (WriteUnderWay a lnum offs len) → take offs (a.holds lnum) ≡ take offs (b.holds lnum)
-    → length (a.holds lnum) ≡ length (b.holds lnum) → AreLaid (b.holds lnum) offs end number nodes → IsReady b geo from lnum end next (fold named buds (references_in nodes))
+    → length (a.holds lnum) ≡ length (b.holds lnum) → AreLaid (b.holds lnum) offs end number nodes → IsLogReady b geo from lnum end next (fold named_also buds (references_in nodes))
 ready_here a b geo from lnum offs number next end len buds nodes bytes h clean f sub later w works front long laid =
     let there = end_among a geo from lnum offs number buds h in
     let all : List LogText = h.first ∷ h.more in
@@ -58,7 +58,7 @@ ready_here a b geo from lnum offs number next end len buds nodes bytes h clean f
       chain = chain_grown growth geo from h.start h.past h.first h.more f h.chain clean (λ k ne is. sym (works.others k ne)) grows;
       low = omega (arith, low, later);
       below = below_more number next (last_first g h.first h.more ∷ last_more g h.more) later (below_grown a.holds geo from h.start h.past number h.first h.more found references ends h.chain h.below);
-      buds_are = ap (λ (bs : List HeadAt). fold named bs references) h.buds_are ∙ sym (buds_behind (references_of all) references) ∙ ap buds_of (sym (references_grown h.first h.more found references ends));
+      buds_are = ap (λ (bs : List HeadAt). fold named_also bs references) h.buds_are ∙ sym (buds_behind (references_of all) references) ∙ ap buds_of (sym (references_grown h.first h.more found references ends));
       last = inl (last_end_grown h.first h.more found references ends);
       settled = λ k is c left. elim (cases_eq k lnum) [
         | inl e ↦
@@ -84,7 +84,7 @@ later_first start number place nodes node (f ∷ found) (g, e, offs, sqnum, kind
 
 -- the text that was laid at the start of a LEB
 pub laid_text : (leb : List ℕ) (lnum end number : ℕ) (nodes : List SystemNode) (h : AreLaid leb 0 end number nodes)
-    → IsTextOf leb lnum (record { nodes = nodes_of h.items; references = references_in nodes; ends = record { lnum = lnum; offs = end; tail = Clean } })
+    → IsLogTextOf leb lnum (record { nodes = nodes_of h.items; references = references_in nodes; ends = record { lnum = lnum; offs = end; tail = Clean } })
 laid_text leb lnum end number nodes h = record { items = h.items; is_text = h.is_text; here = refl; nodes = refl; refer = h.refer }
 
 among_old : (k : ℕ) (first : LogText) (more : List LogText) (text : LogText) (past : ℕ) → k ≢ past → text.ends.lnum ≡ past → IsAmong k (first ∷ (more ++ text ∷ [])) → IsAmong k (first ∷ more)
@@ -144,8 +144,8 @@ starts_with leb lnum end number nodes start laid = (
 )
 
 -- nodes at the start of the next LEB, which was unmapped
-pub ready_next : (a b : VolumeState) (geo : RawGeometry) (from lnum offs number next end : ℕ) (buds : List HeadAt) (node : SystemNode) (nodes : List SystemNode) (bytes : List ℕ) (D : List ℕ → Type 0) (h : IsReady a geo from lnum offs number buds) → IsLogLeb geo from
-    → h.past ≢ from → number < next → IsBegun a b h.past bytes → WorksOn a b h.past D → AreLaid (b.holds h.past) 0 end number (node ∷ nodes) → IsReady b geo from h.past end next (fold named buds (references_in (node ∷ nodes)))
+pub ready_next : (a b : VolumeState) (geo : RawGeometry) (from lnum offs number next end : ℕ) (buds : List HeadAt) (node : SystemNode) (nodes : List SystemNode) (bytes : List ℕ) (D : List ℕ → Type 0) (h : IsLogReady a geo from lnum offs number buds) → IsLogLeb geo from
+    → h.past ≢ from → number < next → IsLebBegun a b h.past bytes → WorksOn a b h.past D → AreLaid (b.holds h.past) 0 end number (node ∷ nodes) → IsLogReady b geo from h.past end next (fold named_also buds (references_in (node ∷ nodes)))
 ready_next a b geo from lnum offs number next end buds node nodes bytes D h f ne later w works laid =
     let all : List LogText = h.first ∷ h.more in
     let past = h.past in
@@ -164,7 +164,7 @@ ready_next a b geo from lnum offs number next end buds node nodes bytes D h f ne
       chain = chain_more b.holds geo from h.start past h.first h.more text old ne (laid_text (b.holds past) past end number (node ∷ nodes) laid) (later_first h.start number 0 nodes node (nodes_of laid.items) laid.first low);
       low = omega (arith, low, later);
       below = below_last next all text (below_more number next all more h.below) (not_above next number nodes node (nodes_of laid.items) laid.first later);
-      buds_are = ap (λ (bs : List HeadAt). fold named bs references) h.buds_are ∙ sym (buds_behind (references_of all) references) ∙ ap buds_of (sym (references_added h.first h.more text));
+      buds_are = ap (λ (bs : List HeadAt). fold named_also bs references) h.buds_are ∙ sym (buds_behind (references_of all) references) ∙ ap buds_of (sym (references_added h.first h.more text));
       last = inl (last_end_added h.first.ends h.more text);
       settled = λ k is c left. elim (cases_eq k past) [
         | inl e ↦
@@ -179,7 +179,7 @@ ready_next a b geo from lnum offs number next end buds node nodes bytes D h f ne
     }
 
 -- a commit start and nodes behind it at the start of a LEB: the log that is read from there on
-pub ready_section : (a b : VolumeState) (geo : RawGeometry) (number next end there : ℕ) (start : CommitStart) (nodes : List SystemNode) (bytes : List ℕ) (D : List ℕ → Type 0) → AreOthersOlder a geo there number → number < next → IsBegun a b there bytes → WorksOn a b there D → AreLaid (b.holds there) 0 end number (commit_start start ∷ nodes) → IsReady b geo there there end next (buds_of (references_in (commit_start start ∷ nodes)))
+pub ready_section : (a b : VolumeState) (geo : RawGeometry) (number next end there : ℕ) (start : CommitStart) (nodes : List SystemNode) (bytes : List ℕ) (D : List ℕ → Type 0) → AreOthersOlder a geo there number → number < next → IsLebBegun a b there bytes → WorksOn a b there D → AreLaid (b.holds there) 0 end number (commit_start start ∷ nodes) → IsLogReady b geo there there end next (buds_of (references_in (commit_start start ∷ nodes)))
 ready_section a b geo number next end there start nodes bytes D older later w works laid =
     let references = references_in (commit_start start ∷ nodes) in
     let text : LogText = record { nodes = nodes_of laid.items; references = references; ends = record { lnum = there; offs = end; tail = Clean } } in
@@ -204,8 +204,8 @@ ready_section a b geo number next end there start nodes bytes D older later w wo
     }
 
 -- what was torn at the start of the next LEB
-pub next_first : OneNode → (a : VolumeState) (geo : RawGeometry) (from lnum offs number : ℕ) (buds : List HeadAt) (node : SystemNode) (nodes : List SystemNode) (h : IsReady a geo from lnum offs number buds) (x : ℕ → List ℕ) → IsLogLeb geo from → h.past ≢ from
-    → AreSpelled number (node ∷ nodes) → ((k : ℕ) → IsLogLeb geo k → k ≢ h.past → a.left_now k (x k)) → IsMeant number 0 (node ∷ nodes) (x h.past) → IsLeftFirst x geo from (lebs_to geo from lnum) (lebs_to geo from h.past) number buds node nodes
+pub next_first : OneSystemNode → (a : VolumeState) (geo : RawGeometry) (from lnum offs number : ℕ) (buds : List HeadAt) (node : SystemNode) (nodes : List SystemNode) (h : IsLogReady a geo from lnum offs number buds) (x : ℕ → List ℕ) → IsLogLeb geo from → h.past ≢ from
+    → AreSpelled number (node ∷ nodes) → ((k : ℕ) → IsLogLeb geo k → k ≢ h.past → a.left_now k (x k)) → IsLogMeant number 0 (node ∷ nodes) (x h.past) → IsLeftFirst x geo from (lebs_to geo from lnum) (lebs_to geo from h.past) number buds node nodes
 next_first one a geo from lnum offs number buds node nodes h x f ne spelled others meant =
     let all : List LogText = h.first ∷ h.more in
     let past = h.past in
@@ -215,7 +215,7 @@ next_first one a geo from lnum offs number buds node nodes h x f ne spelled othe
     let found = nodes_of meant.items in
     let some = some_references (x past) meant.items 0 meant.end meant.is_text.stand in
     let text : LogText = record { nodes = found; references = some.0; ends = record { lnum = past; offs = meant.end; tail = meant.tail } } in
-    let is_text : IsTextOf (x past) past text = record { items = meant.items; is_text = meant.is_text; here = refl; nodes = refl; refer = some.1 } in
+    let is_text : IsLogTextOf (x past) past text = record { items = meant.items; is_text = meant.is_text; here = refl; nodes = refl; refer = some.1 } in
     elim (part_begins one (x past) found 0 number node nodes some.0 spelled meant.part some.1) [
       | inl none ↦
           let not_later : is_later h.start (begins_with text.nodes) ≡ false = ap (λ (n : List Found). is_later h.start (begins_with n)) none in
@@ -254,15 +254,15 @@ next_first one a geo from lnum offs number buds node nodes h x f ne spelled othe
                 let most = lebs_to geo from past in
                 let chain = chain_more x geo from h.start past h.first h.more text old ne is_text (later_first h.start number 0 nodes node found first low) in
                 let below = below_last next all text (below_more number next all more h.below) (not_above next number nodes node found first less) in
-                let E : Bool → Type 0 = λ b. (if b then last_of h.first.ends h.more else text.ends).lnum ≡ past in
-                let end : (end_of h.first.ends (h.more ++ text ∷ [])).lnum ≡ past = ap (λ (z : LogEnd). z.lnum) (end_then h.first.ends h.more text) ∙ subst E (sym other_text) refl in
+                let E : Bool → Type 0 = λ b. (if b then last_end_of h.first.ends h.more else text.ends).lnum ≡ past in
+                let end : (log_end_of h.first.ends (h.more ++ text ∷ [])).lnum ≡ past = ap (λ (z : LogEnd). z.lnum) (end_then h.first.ends h.more text) ∙ subst E (sym other_text) refl in
                 let ready = older_ready x geo from h.start next (next_leb geo past) most h.first (h.more ++ text ∷ []) f chain (omega (arith, low)) below (λ k is none.
                 let other : k ≢ past = λ e. none (inr ((among_added k h.more text).1 (inr e))) in
                 elim (h.spare k (x k) is (λ i. none (among_new k h.first h.more text i)) (others k is other)) [ inl older ↦ older | inr lone ↦ absurd (other lone.0) ])
-                (lebs_same geo from (end_of h.first.ends (h.more ++ text ∷ [])).lnum past end) in
+                (lebs_same geo from (log_end_of h.first.ends (h.more ++ text ∷ [])).lnum past end) in
                 let P : List HeadAt → Type 0 = λ bs. IsLeftReady x geo from most next bs in
-                let e : buds_of (references_of (h.first ∷ (h.more ++ text ∷ []))) ≡ fold named buds (references_in (node ∷ take n nodes)) =
-                ap buds_of (references_added h.first h.more text) ∙ buds_behind (references_of all) some.0 ∙ ap (λ (b : List HeadAt). fold named b some.0) (sym h.buds_are) ∙ ap (fold named buds) refs in
+                let e : buds_of (references_of (h.first ∷ (h.more ++ text ∷ []))) ≡ fold named_also buds (references_in (node ∷ take n nodes)) =
+                ap buds_of (references_added h.first h.more text) ∙ buds_behind (references_of all) some.0 ∙ ap (λ (b : List HeadAt). fold named_also b some.0) (sym h.buds_are) ∙ ap (fold named_also buds) refs in
                 let some_behind : node_type node ≡ types.CommitStart → 0 < n = λ start. elim (cases_eq n 0) [ inl none ↦ (let alone = alone_if none start in absurd cc) | inr positive ↦ omega (arith, positive) ] in
                 inr (inr (n, few, some_behind, subst P e ready))
           ]

@@ -16,13 +16,13 @@ use Rattle.bud_log.specs.Below.{begins_start}
 use Rattle.bud_log.specs.Grown.{grown, grown_text}
 use Rattle.bud_log.specs.Log.{IsLogLeb, next_leb}
 use Rattle.bud_log.specs.LogAnswers.{StartsWith, IsSection}
-use Rattle.bud_log.specs.LogAt.{LogAt, IsEnded, steps_to, has_room, lnum_at, offs_at, next_lnum, ending, starting, without_old}
+use Rattle.bud_log.specs.LogAt.{LogAt, IsOfEarlierSection, steps_to, has_room, lnum_at, offs_at, next_lnum, ending, starting, without_old_sections}
 use Rattle.bud_log.specs.LogCalls.{IsAdded, EndUnderWay}
-use Rattle.bud_log.specs.LogText.{LogText, IsTextOf, begins_with, start_of, is_start_alone, IsNoLoneStart}
+use Rattle.bud_log.specs.LogText.{LogText, IsLogTextOf, begins_with, start_of, is_start_alone, IsNoLoneStart}
 use Rattle.bud_log.specs.References.{lone_references}
-use Rattle.bud_log.specs.RingRuns.{OneText}
+use Rattle.bud_log.specs.RingRuns.{OneLebText}
 use Rattle.bud_log.specs.RingSteps.{steps_more}
-use Rattle.bud_log.specs.Writing.{IsOlder, AreOthersOlder, AreNodes, last_end, IsReady, references_in}
+use Rattle.bud_log.specs.Writing.{IsOlder, AreOthersOlder, AreNodes, last_end, IsLogReady, references_in}
 use Rattle.bud_log.specs.declared.head_at.HeadAt.{HeadAt}
 use Rattle.bud_log.specs.declared.log_end.LogEnd.{LogEnd}
 use Rattle.bud_log.proofs.Ended.{ended_each}
@@ -32,7 +32,7 @@ use Rattle.bud_log.proofs.Opened.{blank_older, chain_end, clean_end, end_blank, 
 use Rattle.bud_log.proofs.ReadyAgain.{laid_text}
 
 -- a text that names a bud is no commit start alone
-named_alone : (leb : List ℕ) (lnum : ℕ) (text : LogText) (before : List RefNode) (node : RefNode) → IsTextOf leb lnum text → text.references ≡ before ++ node ∷ [] → is_start_alone text.nodes ≡ false
+named_alone : (leb : List ℕ) (lnum : ℕ) (text : LogText) (before : List RefNode) (node : RefNode) → IsLogTextOf leb lnum text → text.references ≡ before ++ node ∷ [] → is_start_alone text.nodes ≡ false
 named_alone leb lnum text before node is e = elim (cases_Bool (is_start_alone text.nodes)) [
   | inl alone ↦
       let none = lone_references leb text.nodes text.references is.refer alone in
@@ -43,7 +43,7 @@ named_alone leb lnum text before node is e = elim (cases_Bool (is_start_alone te
 ]
 
 -- A reference was written behind the end of the log. What its first LEB begins with stays, and the LEB of the reference is no commit start alone.
-pub added_section : OneText → (here : Bool) (a b : VolumeState) (at : LogAt) (from known number low : ℕ) (buds : List HeadAt) (node : RefNode) (bytes : List ℕ) (D : List ℕ → Type 0) → IsReady a at.geo from at.lnum at.offs known buds → IsBytes (a.holds from)
+pub added_section : OneLebText → (here : Bool) (a b : VolumeState) (at : LogAt) (from known number low : ℕ) (buds : List HeadAt) (node : RefNode) (bytes : List ℕ) (D : List ℕ → Type 0) → IsLogReady a at.geo from at.lnum at.offs known buds → IsBytes (a.holds from)
     → (here ≡ true → has_room at ≡ true) → (here ≡ false → next_leb at.geo at.lnum ≢ from) → IsAdded here a b at bytes → WorksOn a b (lnum_at here at) D → AreNodes bytes number (reference node ∷ [])
     → length (a.holds at.lnum) ≡ a.leb_size → offs_at here at + length bytes ≤ a.leb_size → at.offs % 8 ≡ 0 → StartsWith (a.holds from) from low
     → StartsWith (b.holds from) from low × IsNoLoneStart (b.holds (lnum_at here at)) (lnum_at here at)
@@ -64,7 +64,7 @@ added_section one true a b at from known number low buds node bytes D h fits_byt
     let E : LogEnd → Type 0 = λ z. take z.offs old ≡ take z.offs new in
     let F : LogEnd → Type 0 = λ z. IsText new z.offs laid.items end Clean in
     let text = grown_text t.0 found references (record { lnum = lnum; offs = end; tail = Clean }) in
-    let is : IsTextOf new lnum text =
+    let is : IsLogTextOf new lnum text =
     grown old new lnum end Clean t.0 laid.items references t.1 (subst E (sym t.2) (front.0 ∙ ap (take at.offs) (sym w.holds))) (front.1 ∙ ap length (sym w.holds)) (subst F (sym t.2) laid.is_text) laid.refer in
     let kept : StartsWith (b.holds from) from low = elim (cases_eq from lnum) [
       | inl same ↦
@@ -120,7 +120,7 @@ started_section a b at number offs there D starts works older = record {
 }
 
 -- the sections before it were unmapped
-pub ended_section : (a b : VolumeState) (at : LogAt) (low : ℕ) → steps_to at.geo at.first at.section ≤ steps_to at.geo at.first at.lnum → ((k : ℕ) → b.left_now k (b.holds k)) → Works a b (IsEnded at) (EndUnderWay a at) → IsSection a at low → IsSection b (without_old at) low
+pub ended_section : (a b : VolumeState) (at : LogAt) (low : ℕ) → steps_to at.geo at.first at.section ≤ steps_to at.geo at.first at.lnum → ((k : ℕ) → b.left_now k (b.holds k)) → Works a b (IsOfEarlierSection at) (EndUnderWay a at) → IsSection a at low → IsSection b (without_old_sections at) low
 ended_section a b at low way held works section =
     let S : List ℕ → Type 0 = λ leb. StartsWith leb at.section (low + 1) in
     let N : List ℕ → Type 0 = λ leb. IsNoLoneStart leb at.lnum in

@@ -7,7 +7,7 @@ use Rattle.ubifs_base.specs.Geometry.{IsGeometry}
 use Rattle.ubifs_base.specs.declared.raw_geometry.RawGeometry.{RawGeometry}
 use Rattle.ubi_volume.specs.Volume.{VolumeState, SameShape}
 use Rattle.media_sys.specs.declared.ref_node.RefNode.{RefNode}
-use Rattle.bud_log.specs.LogAt.{LogAt, IsAt, has_room, room_of, offs_at, ending, reference_to, references_to, head_nodes}
+use Rattle.bud_log.specs.LogAt.{LogAt, IsAt, has_room, padded_room_of, offs_at, ending, reference_to, references_to, head_nodes}
 use Rattle.bud_log.specs.Writing.{references_in}
 use Rattle.bud_log.specs.declared.head_at.HeadAt.{HeadAt}
 
@@ -57,6 +57,6 @@ pub fits_leb : (geo : RawGeometry) (n len : ℕ) → IsGeometry geo → len ≤ 
 fits_leb geo n len h short high = let size = h.leb_size.3 in omega (arith, size, short, high)
 
 -- and a reference fits where it goes
-pub fits_there : (here : Bool) (at : LogAt) (n : ℕ) → here ≡ has_room at → n ≡ room_of at.geo.min_io 64 → n ≤ at.geo.leb_size → offs_at here at + n ≤ at.geo.leb_size
-fits_there true at n e is fits = let P : ℕ → Type 0 = λ k. at.offs + k ≤ at.geo.leb_size in subst P (sym is) (leb-true (at.offs + room_of at.geo.min_io 64) at.geo.leb_size (sym e))
+pub fits_there : (here : Bool) (at : LogAt) (n : ℕ) → here ≡ has_room at → n ≡ padded_room_of at.geo.min_io 64 → n ≤ at.geo.leb_size → offs_at here at + n ≤ at.geo.leb_size
+fits_there true at n e is fits = let P : ℕ → Type 0 = λ k. at.offs + k ≤ at.geo.leb_size in subst P (sym is) (leb-true (at.offs + padded_room_of at.geo.min_io 64) at.geo.leb_size (sym e))
 fits_there false at n e is fits = omega (arith, fits)

@@ -4,8 +4,8 @@ use Rattle.std.specs.Prelude.{◌≢◌}
 use Rattle.std.proofs.lemmas.Bool.{cases_eq, cases_Bool, eq-eqb, ne_eqb, cases_lt}
 use Rattle.ubifs_base.specs.declared.raw_geometry.RawGeometry.{RawGeometry}
 use Rattle.bud_log.specs.Log.{IsLogLeb, next_leb}
-use Rattle.bud_log.specs.LogAt.{LogAt, IsStart, steps_to, used_lebs, most_lebs, IsWithin, has_room, IsFull, lnum_at, ending, starting, without_old}
-use Rattle.bud_log.specs.RingRuns.{left_of, left_below, left_above}
+use Rattle.bud_log.specs.LogAt.{LogAt, IsLogStart, steps_to, used_lebs, most_lebs, IsWithin, has_room, IsLogFull, lnum_at, ending, starting, without_old_sections}
+use Rattle.bud_log.specs.RingRuns.{lebs_left_of, left_below, left_above}
 use Rattle.bud_log.specs.RingSteps.{steps_are, next_is}
 
 -- one step more
@@ -31,7 +31,7 @@ pub steps_none : (geo : RawGeometry) (from : ℕ) → steps_to geo from from ≡
 steps_none geo from = elim (steps_are geo from from) [ inl (below, s) ↦ absurd (omega (arith, below)) | inr (above, s) ↦ omega (arith, s) ]
 
 -- the next LEB is none in which a section starts that is needed
-pub next_free : (at : LogAt) (from : ℕ) → IsLogLeb at.geo at.first → IsLogLeb at.geo at.lnum → steps_to at.geo at.first at.section ≤ steps_to at.geo at.first at.lnum → steps_to at.geo at.first at.lnum + 1 < at.geo.log_lebs → IsStart at from
+pub next_free : (at : LogAt) (from : ℕ) → IsLogLeb at.geo at.first → IsLogLeb at.geo at.lnum → steps_to at.geo at.first at.section ≤ steps_to at.geo at.first at.lnum → steps_to at.geo at.first at.lnum + 1 < at.geo.log_lebs → IsLogStart at from
     → next_leb at.geo at.lnum ≢ from
 next_free at from f l way room (inl first) = λ e.
     let P : ℕ → Type 0 = λ n. steps_to at.geo at.first n ≡ steps_to at.geo at.first at.lnum + 1 in
@@ -70,7 +70,7 @@ same_steps geo from a b f g h e =
       | inr (p, s) ↦ elim (steps_are geo from b) [ inl (q, t) ↦ absurd (omega (arith, f1, f2, a1, a2, b1, b2, p, s, q, t, e)) | inr (q, t) ↦ omega (arith, f1, f2, a1, a2, b1, b2, p, s, q, t, e) ]
     ]
 
-left_is : (geo : RawGeometry) (from lnum : ℕ) → ((lnum ≤ from) × (left_of geo from lnum ≡ from - lnum)) ⊎ ((from < lnum) × (left_of geo from lnum ≡ (from + (3 + geo.log_lebs)) - (lnum + 3)))
+left_is : (geo : RawGeometry) (from lnum : ℕ) → ((lnum ≤ from) × (lebs_left_of geo from lnum ≡ from - lnum)) ⊎ ((from < lnum) × (lebs_left_of geo from lnum ≡ (from + (3 + geo.log_lebs)) - (lnum + 3)))
 left_is geo from lnum = elim (cases_lt from lnum) [
   | inl above ↦ inr (above, left_above geo from lnum above)
   | inr below ↦ inl (below, left_below geo from lnum below)
@@ -78,7 +78,7 @@ left_is geo from lnum = elim (cases_lt from lnum) [
 
 -- a LEB before a section isn't reached from there to a LEB of it
 pub before_left : (geo : RawGeometry) (first section lnum k : ℕ) → IsLogLeb geo first → IsLogLeb geo section → IsLogLeb geo lnum → IsLogLeb geo k → steps_to geo first k < steps_to geo first section → steps_to geo first section ≤ steps_to geo first lnum
-    → left_of geo section k ≤ left_of geo section (next_leb geo lnum)
+    → lebs_left_of geo section k ≤ lebs_left_of geo section (next_leb geo lnum)
 before_left geo first section lnum k f s l h before way =
     let f1 = f.low in
     let f2 = f.high in
@@ -303,7 +303,7 @@ steps_split geo first section lnum f s l way =
 -- No more LEBs are in use than may be.
 
 -- after a bud was opened
-pub within_opened : (here : Bool) (at : LogAt) (offs : ℕ) → here ≡ has_room at → IsLogLeb at.geo at.first → IsLogLeb at.geo at.lnum → (IsFull at → ⊥) → IsWithin at → IsWithin (ending at (lnum_at here at) offs)
+pub within_opened : (here : Bool) (at : LogAt) (offs : ℕ) → here ≡ has_room at → IsLogLeb at.geo at.first → IsLogLeb at.geo at.lnum → (IsLogFull at → ⊥) → IsWithin at → IsWithin (ending at (lnum_at here at) offs)
 within_opened here at offs same f l free h =
     let P : Bool → Type 0 = λ r. IsWithin (ending at (lnum_at r at) offs) in
     subst P (sym same) (elim (cases_Bool (has_room at)) [
@@ -323,7 +323,7 @@ within_started at offs f l ne room =
     rw other (omega (arith, step, room))
 
 -- after the sections before were unmapped
-pub within_ended : (at : LogAt) → IsLogLeb at.geo at.first → IsLogLeb at.geo at.section → IsLogLeb at.geo at.lnum → steps_to at.geo at.first at.section ≤ steps_to at.geo at.first at.lnum → IsWithin at → IsWithin (without_old at)
+pub within_ended : (at : LogAt) → IsLogLeb at.geo at.first → IsLogLeb at.geo at.section → IsLogLeb at.geo at.lnum → steps_to at.geo at.first at.section ≤ steps_to at.geo at.first at.lnum → IsWithin at → IsWithin (without_old_sections at)
 within_ended at f s l way h =
     let split = steps_split at.geo at.first at.section at.lnum f s l way in
     let one : (at.section == at.section) ≡ true = eq-eqb at.section at.section refl in

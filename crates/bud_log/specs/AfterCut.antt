@@ -5,11 +5,11 @@ use Rattle.media_sys.specs.declared.ref_node.RefNode.{RefNode}
 use Rattle.ubi_volume.specs.Volume.{VolumeState, Only}
 use Rattle.ubi_volume.specs.Loading.{IsWrittenPart}
 use Rattle.leb_scan.specs.Text.{is_blank}
-use Rattle.bud_log.specs.Buds.{named}
+use Rattle.bud_log.specs.Buds.{named_also}
 use Rattle.bud_log.specs.Log.{Log, IsLog, IsLogLeb, next_leb, log_of}
 use Rattle.bud_log.specs.LogAt.{LogAt, IsAt, steps_to, used_lebs, next_lnum}
 use Rattle.bud_log.specs.LogText.{begins_with, start_of, IsLoneStart}
-use Rattle.bud_log.specs.Writing.{IsAmong, IsOlder, AreBelow, offs_behind, GoesOn, IsReady}
+use Rattle.bud_log.specs.Writing.{IsAmong, IsOlder, AreBelow, offs_behind, GoesOn, IsLogReady}
 use Rattle.bud_log.specs.declared.head_at.HeadAt.{HeadAt}
 use Rattle.bud_log.specs.declared.log_end.LogEnd.{LogEnd}
 use Rattle.bud_log.specs.declared.log_read.LogRead.{LogRead}
@@ -25,8 +25,8 @@ pub record IsReadyIn (contents : ℕ → List ℕ) (geo : RawGeometry) (from num
   pub spare : (k : ℕ) → IsLogLeb geo k → (IsAmong k (is_log.first ∷ is_log.more) → ⊥) → IsOlder start k (contents k)
 
 -- the log that is opened over what was read from this LEB on, and ends here
-abbrev pub opened_at : RawGeometry → ℕ → LogEnd → LogAt
-opened_at geo from ends = record { geo = geo; first = from; section = from; lnum = ends.lnum; offs = offs_behind geo ends }
+abbrev pub log_opened_at : RawGeometry → ℕ → LogEnd → LogAt
+log_opened_at geo from ends = record { geo = geo; first = from; section = from; lnum = ends.lnum; offs = offs_behind geo ends }
 
 -- how many LEBs of the ring a log takes that is read from one LEB on, and ends in another
 abbrev pub lebs_to : RawGeometry → ℕ → ℕ → ℕ
@@ -34,21 +34,21 @@ lebs_to geo from lnum = steps_to geo from lnum + 1
 
 -- These contents are such a log of these buds. Once it is opened no more LEBs of the ring are in use than so many.
 abbrev pub IsLeftReady : (ℕ → List ℕ) → RawGeometry → ℕ → ℕ → ℕ → List HeadAt → Type 0
-IsLeftReady contents geo from most number buds = (log : Log) × IsReadyIn contents geo from number log × (log.buds ≡ buds) × (used_lebs (opened_at geo from log.ends) ≤ most)
+IsLeftReady contents geo from most number buds = (log : Log) × IsReadyIn contents geo from number log × (log.buds ≡ buds) × (used_lebs (log_opened_at geo from log.ends) ≤ most)
 
 -- While a bud is opened: a log of the buds before, or of this one too, whose LEB is blank then. So a bud is never read from while it
 -- holds what it held before. The reference has the number behind this one.
 abbrev pub IsLeftOpened : (ℕ → List ℕ) → LogAt → ℕ → ℕ → List HeadAt → RefNode → Type 0
 IsLeftOpened contents at from number buds node =
     IsLeftReady contents at.geo from (lebs_to at.geo from at.lnum) number buds
-    ⊎ (IsLeftReady contents at.geo from (lebs_to at.geo from (next_lnum at)) (number + 1) (named buds node) × IsTrue (is_blank (contents node.lnum)))
+    ⊎ (IsLeftReady contents at.geo from (lebs_to at.geo from (next_lnum at)) (number + 1) (named_also buds node) × IsTrue (is_blank (contents node.lnum)))
 
 -- While a section is started: a log of the buds before, perhaps with the commit start alone, which has the number behind this one; or
 -- one of the first of these references too, which takes the next LEB.
 abbrev pub IsLeftStarted : (ℕ → List ℕ) → LogAt → ℕ → ℕ → List HeadAt → List RefNode → Type 0
 IsLeftStarted contents at from number buds references =
     IsLeftReady contents at.geo from (lebs_to at.geo from at.lnum) (number + 1) buds
-    ⊎ ((n : ℕ) × (0 < n) × (n ≤ length references) × IsLeftReady contents at.geo from (lebs_to at.geo from (next_leb at.geo at.lnum)) (number + 1 + n) (fold named buds (take n references)))
+    ⊎ ((n : ℕ) × (0 < n) × (n ≤ length references) × IsLeftReady contents at.geo from (lebs_to at.geo from (next_leb at.geo at.lnum)) (number + 1 + n) (fold named_also buds (take n references)))
 
 -- The log's LEBs as they are found after a cut that left these contents: of each the part up to the last unit that isn't erased counts as
 -- written, and a cut leaves nothing else. Nothing is said of other LEBs, nor of calls that may fail.
@@ -83,7 +83,7 @@ IsOpenBehind state geo ends = state.written ends.lnum ≤ offs_behind geo ends
 abbrev pub OpensReady : VolumeState → VolumeState → RawGeometry → ℕ → LogRead → Type 0
 OpensReady old new geo from read =
     (number : ℕ) (log : Log) → IsHeldLog old geo from number log
-    → let at : LogAt = opened_at geo from (log_of read).ends in
+    → let at : LogAt = log_opened_at geo from (log_of read).ends in
     (log_of read ≡ log)
-    × ((next : ℕ) → (number ≤ next) ⊎ (read.sqnum ≤ next) → IsReady new geo from at.lnum at.offs next read.buds.items)
+    × ((next : ℕ) → (number ≤ next) ⊎ (read.sqnum ≤ next) → IsLogReady new geo from at.lnum at.offs next read.buds.items)
     × ((geo.leb_size ≡ old.leb_size) → (geo.min_io ≡ old.min_io) → IsOpenBehind old geo log.ends → IsAt new at)

@@ -21,37 +21,37 @@ use Rattle.bud_log.specs.AfterCut.{IsReadyIn, IsLeftReady, IsFoundLog, IsHeldLog
 use Rattle.bud_log.specs.Below.{below_last}
 use Rattle.bud_log.specs.Buds.{buds_of}
 use Rattle.bud_log.specs.Chains.{past_free, chain_past, chain_more, among_added, references_added}
-use Rattle.bud_log.specs.Log.{Log, IsLog, IsLogLeb, next_leb, Run, Stops, AreFurther, references_of, greatest_of, end_of}
-use Rattle.bud_log.specs.LogAt.{LogAt, IsAt, room_of, steps_to}
+use Rattle.bud_log.specs.Log.{Log, IsLog, IsLogLeb, next_leb, Run, Stops, AreFurther, references_of, greatest_of, log_end_of}
+use Rattle.bud_log.specs.LogAt.{LogAt, IsAt, padded_room_of, steps_to}
 use Rattle.bud_log.specs.LogLaws.{further_same, among_log, among_or, chain_alike, below_more}
-use Rattle.bud_log.specs.LogText.{LogText, IsTextOf, begins_with, start_of, BeginsCommit, is_later, greatest_found, is_start_alone, IsLoneStart}
+use Rattle.bud_log.specs.LogText.{LogText, IsLogTextOf, begins_with, start_of, BeginsCommit, is_later, greatest_found, is_start_alone, IsLoneStart}
 use Rattle.bud_log.specs.References.{text_begins, some_commit, lone_references}
 use Rattle.bud_log.specs.RingSteps.{end_near, end_alone}
-use Rattle.bud_log.specs.Writing.{IsAmong, IsOlder, IsPassedOver, AreBelow, last_end, IsChain, offs_behind, GoesOn, IsReady}
+use Rattle.bud_log.specs.Writing.{IsAmong, IsOlder, IsPassedOver, AreBelow, last_end, IsChain, offs_behind, GoesOn, IsLogReady}
 use Rattle.bud_log.specs.declared.head_at.HeadAt.{HeadAt}
 use Rattle.bud_log.specs.declared.log_end.LogEnd.{LogEnd}
 
 -- texts that are read are a log, where all other LEBs are older
 pub older_ready : (x : ℕ → List ℕ) (geo : RawGeometry) (from start number past most : ℕ) (first : LogText) (more : List LogText) → IsLogLeb geo from → IsChain x geo from start first more past → start ≤ number → AreBelow number (first ∷ more)
-    → ((k : ℕ) → IsLogLeb geo k → (IsAmong k (first ∷ more) → ⊥) → IsOlder start k (x k)) → steps_to geo from (end_of first.ends more).lnum + 1 ≤ most → IsLeftReady x geo from most number (buds_of (references_of (first ∷ more)))
+    → ((k : ℕ) → IsLogLeb geo k → (IsAmong k (first ∷ more) → ⊥) → IsOlder start k (x k)) → steps_to geo from (log_end_of first.ends more).lnum + 1 ≤ most → IsLeftReady x geo from most number (buds_of (references_of (first ∷ more)))
 older_ready x geo from start number past most first more f h low below older near =
     let P : Option ℕ → Type 0 = λ o. AreFurther x geo from o more in
     let commit = some_commit (x from) (begins_with first.nodes) (text_begins (x from) from first h.is_first) in
     let stops : Stops x from start past = elim (cases_eq past from) [ inl same ↦ inl same | inr ne ↦ inr (older past (chain_past x geo from start past first more f h) (past_free x geo from start past first more f h ne)) ] in
-    let log : Log = record { commit = commit.0; buds = buds_of (references_of (first ∷ more)); sqnum = greatest_of 0 (first ∷ more); ends = end_of first.ends more } in
+    let log : Log = record { commit = commit.0; buds = buds_of (references_of (first ∷ more)); sqnum = greatest_of 0 (first ∷ more); ends = log_end_of first.ends more } in
     let is_log : IsLog x geo from log = record { first = first; more = more; is_first = h.is_first; commit = commit.1; are_further = subst P (sym h.starts) (past, h.run, stops); buds = refl; sqnum = refl; ends = refl } in
     (log, record { is_log = is_log; start = start; starts = h.starts; low = low; below = below; spare = older }, refl, near)
 
 -- where the LEB behind them is older
 past_ready : (x : ℕ → List ℕ) (geo : RawGeometry) (from start number past most : ℕ) (first : LogText) (more : List LogText) → IsLogLeb geo from → IsChain x geo from start first more past → start ≤ number → AreBelow number (first ∷ more)
-    → ((k : ℕ) → IsLogLeb geo k → (IsAmong k (first ∷ more) → ⊥) → IsPassedOver start number past k (x k)) → IsOlder start past (x past) → steps_to geo from (end_of first.ends more).lnum + 1 ≤ most → IsLeftReady x geo from most number (buds_of (references_of (first ∷ more)))
+    → ((k : ℕ) → IsLogLeb geo k → (IsAmong k (first ∷ more) → ⊥) → IsPassedOver start number past k (x k)) → IsOlder start past (x past) → steps_to geo from (log_end_of first.ends more).lnum + 1 ≤ most → IsLeftReady x geo from most number (buds_of (references_of (first ∷ more)))
 past_ready x geo from start number past most first more f h low below passed older near =
     let P : ℕ → Type 0 = λ n. IsOlder start n (x n) in
     older_ready x geo from start number past most first more f h low below (λ k is none. elim (passed k is none) [ inl old ↦ old | inr lone ↦ subst P (sym lone.0) older ]) near
 
 -- where it has a commit start alone, which is read, and names no bud
 lone_ready : (x : ℕ → List ℕ) (geo : RawGeometry) (from start number past most : ℕ) (first : LogText) (more : List LogText) (text : LogText) → IsLogLeb geo from → IsChain x geo from start first more past → start ≤ number → AreBelow number (first ∷ more)
-    → ((k : ℕ) → IsLogLeb geo k → (IsAmong k (first ∷ more) → ⊥) → IsPassedOver start number past k (x k)) → past ≢ from → IsTextOf (x past) past text → IsTrue (is_start_alone text.nodes) → IsFalse (is_later number (begins_with text.nodes)) → IsTrue (is_later start (begins_with text.nodes))
+    → ((k : ℕ) → IsLogLeb geo k → (IsAmong k (first ∷ more) → ⊥) → IsPassedOver start number past k (x k)) → past ≢ from → IsLogTextOf (x past) past text → IsTrue (is_start_alone text.nodes) → IsFalse (is_later number (begins_with text.nodes)) → IsTrue (is_later start (begins_with text.nodes))
     → steps_to geo from (last_end first.ends more).lnum + 1 ≤ most → IsLeftReady x geo from most number (buds_of (references_of (first ∷ more)))
 lone_ready x geo from start number past most first more text f h low below passed ne is alone not_above later near =
     let N : LogEnd → Type 0 = λ e. steps_to geo from e.lnum + 1 ≤ most in
@@ -72,7 +72,7 @@ pub chain_ready : (x : ℕ → List ℕ) (geo : RawGeometry) (from start number 
 chain_ready x geo from start number past most first more f h low below passed near =
     let L : ℕ → Type 0 = λ n. IsLogLeb geo n in
     let no_further = end_near x geo from start (next_leb geo from) past first.ends more f (subst L (sym h.is_first.here) f) (ap (next_leb geo) (sym h.is_first.here)) h.run in
-    let told : steps_to geo from (end_of first.ends more).lnum + 1 ≤ most = omega (arith, near, no_further) in
+    let told : steps_to geo from (log_end_of first.ends more).lnum + 1 ≤ most = omega (arith, near, no_further) in
     elim (cases_eq past from) [
       | inl same ↦ older_ready x geo from start number past most first more f h low below (λ k is none. elim (passed k is none) [ inl old ↦ old | inr lone ↦ absurd (none (inl (lone.0 ∙ same ∙ sym h.is_first.here))) ]) told
       | inr ne ↦ elim (passed past (chain_past x geo from start past first more f h) (past_free x geo from start past first more f h ne)) [
@@ -94,7 +94,7 @@ pub lebs_same : (geo : RawGeometry) (from a b : ℕ) → a ≡ b → steps_to ge
 lebs_same geo from a b e = let same : steps_to geo from a ≡ steps_to geo from b = ap (steps_to geo from) e in omega (arith, same)
 
 -- Of a volume that is ready for its next node, a cut leaves a log that whoever mounts it may write on.
-pub IsReady-left : (a : VolumeState) (geo : RawGeometry) (from lnum offs number : ℕ) (buds : List HeadAt) (x : ℕ → List ℕ) → IsLogLeb geo from → IsReady a geo from lnum offs number buds → ((k : ℕ) → IsLogLeb geo k → a.left_now k (x k)) → IsLeftReady x geo from (lebs_to geo from lnum) number buds
+pub IsReady-left : (a : VolumeState) (geo : RawGeometry) (from lnum offs number : ℕ) (buds : List HeadAt) (x : ℕ → List ℕ) → IsLogLeb geo from → IsLogReady a geo from lnum offs number buds → ((k : ℕ) → IsLogLeb geo k → a.left_now k (x k)) → IsLeftReady x geo from (lebs_to geo from lnum) number buds
 IsReady-left a geo from lnum offs number buds x f h left =
     let most = lebs_to geo from lnum in
     let P : List HeadAt → Type 0 = λ bs. IsLeftReady x geo from most number bs in
@@ -132,13 +132,13 @@ record IsTold (c : ℕ → List ℕ) (geo : RawGeometry) (from start number lnum
   told : List LogText
   past : ℕ
   run : Run c geo from start lnum told past
-  last : last_end before told ≡ end_of before texts
+  last : last_end before told ≡ log_end_of before texts
   references : references_of told ≡ references_of texts
   below : AreBelow number told
   among : (k : ℕ) → IsAmong k told → IsAmong k texts
-  left_out : (k : ℕ) → IsAmong k texts → IsAmong k told ⊎ ((k ≡ past) × (text : LogText) × IsTextOf (c k) k text × IsTrue (is_start_alone text.nodes) × IsFalse (is_later number (begins_with text.nodes)))
+  left_out : (k : ℕ) → IsAmong k texts → IsAmong k told ⊎ ((k ≡ past) × (text : LogText) × IsLogTextOf (c k) k text × IsTrue (is_start_alone text.nodes) × IsFalse (is_later number (begins_with text.nodes)))
 
-told_all : (c : ℕ → List ℕ) (geo : RawGeometry) (from start number lnum past : ℕ) (before : LogEnd) (texts : List LogText) → Run c geo from start lnum texts past → AreBelow number texts → last_end before texts ≡ end_of before texts → IsTold c geo from start number lnum before texts
+told_all : (c : ℕ → List ℕ) (geo : RawGeometry) (from start number lnum past : ℕ) (before : LogEnd) (texts : List LogText) → Run c geo from start lnum texts past → AreBelow number texts → last_end before texts ≡ log_end_of before texts → IsTold c geo from start number lnum before texts
 told_all c geo from start number lnum past before texts run below last = record { told = texts; past = past; run = run; last = last; references = refl; below = below; among = λ k there. there; left_out = λ k there. inl there }
 
 told_of : (c : ℕ → List ℕ) (geo : RawGeometry) (from start number lnum past : ℕ) (before : LogEnd) (texts : List LogText) → Run c geo from start lnum texts past → AreBelow number texts → IsTold c geo from start number lnum before texts
@@ -147,7 +147,7 @@ told_of c geo from start number lnum past before (text ∷ []) run below = elim 
   | inl alone ↦
       let none : text.references ≡ [] = lone_references (c lnum) text.nodes text.references run.1.refer alone in
       let E : Bool → Type 0 = λ b. before ≡ (if b then before else text.ends) in
-      let P : ℕ → Type 0 = λ n. IsTextOf (c n) n text in
+      let P : ℕ → Type 0 = λ n. IsLogTextOf (c n) n text in
       record {
         told = [];
         past = lnum;
@@ -176,12 +176,12 @@ told_of c geo from start number lnum past before (text ∷ (other ∷ more)) run
     }
 
 -- no reference has room behind a LEB's end
-no_room : (unit size : ℕ) → 8 ≤ unit → nat_le (size + room_of unit 64) size ≡ false
+no_room : (unit size : ℕ) → 8 ≤ unit → nat_le (size + padded_room_of unit 64) size ≡ false
 no_room unit size some =
     let n : ℕ = 64 + (unit - 1) in
-    let whole : room_of unit 64 + n % unit ≡ n = omega (arith, div-add-mod' n unit) in
+    let whole : padded_room_of unit 64 + n % unit ≡ n = omega (arith, div-add-mod' n unit) in
     let rest : n % unit < unit = mod-lt n (omega (arith, some)) in
-    lt-leb (size + room_of unit 64) size (omega (arith, whole, rest, some))
+    lt-leb (size + padded_room_of unit 64) size (omega (arith, whole, rest, some))
 
 goes_if : (geo : RawGeometry) (lnum offs : ℕ) (tail : Tail) → 8 ≤ geo.min_io → let ends : LogEnd = record { lnum = lnum; offs = offs; tail = tail } in GoesOn geo ends lnum (offs_behind geo ends)
 goes_if geo lnum offs Torn some = inr (refl, refl, no_room geo.min_io geo.leb_size some)
@@ -198,7 +198,7 @@ pub goes_behind : (geo : RawGeometry) (ends : LogEnd) → 8 ≤ geo.min_io → G
 goes_behind geo ends some = goes_if geo ends.lnum ends.offs ends.tail some
 
 told_opens : (state : VolumeState) (geo : RawGeometry) (from number : ℕ) (log : Log) (held : IsHeldLog state geo from number log)
-    (told : IsTold state.holds geo from held.ready.start number (next_leb geo from) held.ready.is_log.first.ends held.ready.is_log.more) → 8 ≤ geo.min_io → IsReady state geo from log.ends.lnum (offs_behind geo log.ends) number log.buds
+    (told : IsTold state.holds geo from held.ready.start number (next_leb geo from) held.ready.is_log.first.ends held.ready.is_log.more) → 8 ≤ geo.min_io → IsLogReady state geo from log.ends.lnum (offs_behind geo log.ends) number log.buds
 told_opens state geo from number log held told some =
     let h = held.ready in
     let first = h.is_log.first in
@@ -232,7 +232,7 @@ further_run c geo from start (Some n) more e h =
     let P : ℕ → Type 0 = λ s. Run c geo from s (next_leb geo from) more h.0 in
     (h.0, subst P same h.1)
 
-pub IsHeldLog-opens : (state : VolumeState) (geo : RawGeometry) (from number : ℕ) (log : Log) → IsGeometry geo → IsHeldLog state geo from number log → IsReady state geo from log.ends.lnum (offs_behind geo log.ends) number log.buds
+pub IsHeldLog-opens : (state : VolumeState) (geo : RawGeometry) (from number : ℕ) (log : Log) → IsGeometry geo → IsHeldLog state geo from number log → IsLogReady state geo from log.ends.lnum (offs_behind geo log.ends) number log.buds
 IsHeldLog-opens state geo from number log geometry held =
     let h = held.ready in
     let run = further_run state.holds geo from h.start (start_of (begins_with h.is_log.first.nodes)) h.is_log.more h.starts h.is_log.are_further in
@@ -244,7 +244,7 @@ pub IsReadyIn-same : (c d : ℕ → List ℕ) (geo : RawGeometry) (from number :
 IsReadyIn-same c d geo from number log f same h =
     let first = h.is_log.first in
     let more = h.is_log.more in
-    let P : List ℕ → Type 0 = λ leb. IsTextOf leb from first in
+    let P : List ℕ → Type 0 = λ leb. IsLogTextOf leb from first in
     let Q : List ℕ → Type 0 = λ leb. BeginsCommit leb (begins_with first.nodes) log.commit in
     let is_log : IsLog d geo from log = record {
       first = first;
@@ -277,20 +277,20 @@ IsFoundLog-held contents state geo from number log f found h =
 -- texts that are read are held, where of all other LEBs a cut leaves nothing but older sections
 held_chain : (a : VolumeState) (geo : RawGeometry) (from start number past : ℕ) (first : LogText) (more : List LogText) → IsLogLeb geo from → IsChain a.holds geo from start first more past → start ≤ number → AreBelow number (first ∷ more)
     → ((k : ℕ) → IsAmong k (first ∷ more) → Only (a.holds k) (a.left_now k)) → ((k : ℕ) (leb : List ℕ) → IsLogLeb geo k → (IsAmong k (first ∷ more) → ⊥) → a.left_now k leb → IsOlder start k leb) → ((k : ℕ) → IsLogLeb geo k → a.left_now k (a.holds k))
-    → (log : Log) × IsHeldLog a geo from number log × (log.buds ≡ buds_of (references_of (first ∷ more))) × (log.ends ≡ end_of first.ends more)
+    → (log : Log) × IsHeldLog a geo from number log × (log.buds ≡ buds_of (references_of (first ∷ more))) × (log.ends ≡ log_end_of first.ends more)
 held_chain a geo from start number past first more f h low below settled spare held =
     let older : (k : ℕ) → IsLogLeb geo k → (IsAmong k (first ∷ more) → ⊥) → IsOlder start k (a.holds k) = λ k is none. spare k (a.holds k) is none (held k is) in
     let commit = some_commit (a.holds from) (begins_with first.nodes) (text_begins (a.holds from) from first h.is_first) in
     let P : Option ℕ → Type 0 = λ o. AreFurther a.holds geo from o more in
     let stops : Stops a.holds from start past = elim (cases_eq past from) [ inl same ↦ inl same | inr ne ↦ inr (older past (chain_past a.holds geo from start past first more f h) (past_free a.holds geo from start past first more f h ne)) ] in
-    let log : Log = record { commit = commit.0; buds = buds_of (references_of (first ∷ more)); sqnum = greatest_of 0 (first ∷ more); ends = end_of first.ends more } in
+    let log : Log = record { commit = commit.0; buds = buds_of (references_of (first ∷ more)); sqnum = greatest_of 0 (first ∷ more); ends = log_end_of first.ends more } in
     let is_log : IsLog a.holds geo from log = record { first = first; more = more; is_first = h.is_first; commit = commit.1; are_further = subst P (sym h.starts) (past, h.run, stops); buds = refl; sqnum = refl; ends = refl } in
     (log, record { ready = record { is_log = is_log; start = start; starts = h.starts; low = low; below = below; spare = older }; settled = settled; spare = spare }, refl, refl)
 
 -- texts are told to end where the last one does, if it isn't a commit start alone
 end_told : (c : ℕ → List ℕ) (geo : RawGeometry) (from start lnum past : ℕ) (before : LogEnd) (texts : List LogText) → Run c geo from start lnum texts past
     → let last : ℕ = (last_end before texts).lnum in
-    (end_of before texts ≡ last_end before texts) ⊎ ((last ≢ from) × IsLoneStart (c last) last)
+    (log_end_of before texts ≡ last_end before texts) ⊎ ((last ≢ from) × IsLoneStart (c last) last)
 end_told c geo from start lnum past before [] run = inl refl
 end_told c geo from start lnum past before (text ∷ []) run =
     let P : ℕ → Type 0 = λ n. (n ≢ from) × IsLoneStart (c n) n in
@@ -299,7 +299,7 @@ end_told c geo from start lnum past before (text ∷ []) run =
 end_told c geo from start lnum past before (text ∷ (other ∷ more)) run = end_told c geo from start (next_leb geo lnum) past text.ends (other ∷ more) run.3
 
 -- so a log that is ready for its next node is told to end where it goes on
-ready_told : (a : VolumeState) (geo : RawGeometry) (from lnum offs number : ℕ) (buds : List HeadAt) (h : IsReady a geo from lnum offs number buds) → IsToldEnd a geo from lnum offs (end_of h.first.ends h.more)
+ready_told : (a : VolumeState) (geo : RawGeometry) (from lnum offs number : ℕ) (buds : List HeadAt) (h : IsLogReady a geo from lnum offs number buds) → IsToldEnd a geo from lnum offs (log_end_of h.first.ends h.more)
 ready_told a geo from lnum offs number buds h =
     let G : LogEnd → Type 0 = λ e. GoesOn geo e lnum offs in
     let L : ℕ → Type 0 = λ n. (n ≢ from) × IsLoneStart (a.holds n) n in
@@ -309,7 +309,7 @@ ready_told a geo from lnum offs number buds h =
     ]
 
 -- So is a log that is ready for its next node, as an unmount leaves it, if the LEB behind the last that is read is settled or older.
-pub IsReady-held : (a : VolumeState) (geo : RawGeometry) (from lnum offs number : ℕ) (buds : List HeadAt) (h : IsReady a geo from lnum offs number buds) → IsLogLeb geo from → ((k : ℕ) → IsLogLeb geo k → a.left_now k (a.holds k)) → IsSettledOrOlder a h.start h.past
+pub IsReady-held : (a : VolumeState) (geo : RawGeometry) (from lnum offs number : ℕ) (buds : List HeadAt) (h : IsLogReady a geo from lnum offs number buds) → IsLogLeb geo from → ((k : ℕ) → IsLogLeb geo k → a.left_now k (a.holds k)) → IsSettledOrOlder a h.start h.past
     → (log : Log) × IsHeldLog a geo from number log × (log.buds ≡ buds) × IsToldEnd a geo from lnum offs log.ends
 IsReady-held a geo from lnum offs number buds h f held quiet =
     let first = h.first in
@@ -317,7 +317,7 @@ IsReady-held a geo from lnum offs number buds h f held quiet =
     let past = h.past in
     let T : LogEnd → Type 0 = λ e. IsToldEnd a geo from lnum offs e in
     let B : List HeadAt → Type 0 = λ bs. (log : Log) × IsHeldLog a geo from number log × (log.buds ≡ bs) × T log.ends in
-    let Held : List LogText → Type 0 = λ ts. (log : Log) × IsHeldLog a geo from number log × (log.buds ≡ buds_of (references_of (first ∷ ts))) × (log.ends ≡ end_of first.ends ts) in
+    let Held : List LogText → Type 0 = λ ts. (log : Log) × IsHeldLog a geo from number log × (log.buds ≡ buds_of (references_of (first ∷ ts))) × (log.ends ≡ log_end_of first.ends ts) in
     let whole : Held more → B buds = λ r. (r.0, r.1, r.2 ∙ sym h.buds_are, subst T (sym r.3) (ready_told a geo from lnum offs number buds h)) in
     -- where the LEB behind holds nothing newer
     let without : ((leb : List ℕ) → a.left_now past leb → IsOlder h.start past leb) → B buds = λ old.

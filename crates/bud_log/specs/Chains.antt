@@ -5,42 +5,42 @@ use Rattle.std.proofs.lemmas.List.Sums.{fold-append}
 use Rattle.ubifs_base.specs.declared.raw_geometry.RawGeometry.{RawGeometry}
 use Rattle.media_sys.specs.declared.ref_node.RefNode.{RefNode}
 use Rattle.leb_scan.specs.declared.found.Found.{Found}
-use Rattle.bud_log.specs.Buds.{named, buds_of}
+use Rattle.bud_log.specs.Buds.{named_also, buds_of}
 use Rattle.bud_log.specs.Log.{IsLogLeb, next_leb, Run, references_of}
-use Rattle.bud_log.specs.LogText.{LogText, IsTextOf, begins_with, start_of, is_later}
+use Rattle.bud_log.specs.LogText.{LogText, IsLogTextOf, begins_with, start_of, is_later}
 use Rattle.bud_log.specs.Writing.{IsAmong, IsChain, last_end}
 use Rattle.bud_log.specs.declared.log_end.LogEnd.{LogEnd}
 use Rattle.bud_log.specs.LogLaws.{next_in}
 use Rattle.bud_log.specs.Grown.{grown_text}
-use Rattle.bud_log.specs.RingRuns.{left_of, fewer_left, run_then, references_then}
+use Rattle.bud_log.specs.RingRuns.{lebs_left_of, fewer_left, run_then, references_then}
 
 pub past_in : (c : ℕ → List ℕ) (geo : RawGeometry) (from number lnum past : ℕ) (texts : List LogText) → Run c geo from number lnum texts past → IsLogLeb geo lnum → IsLogLeb geo past
 past_in c geo from number lnum past [] h l = let P : ℕ → Type 0 = λ n. IsLogLeb geo n in subst P h l
 past_in c geo from number lnum past (text ∷ texts) h l = past_in c geo from number (next_leb geo lnum) past texts h.3 (next_in geo lnum l)
 
 -- along a run fewer LEBs are left
-run_fewer : (c : ℕ → List ℕ) (geo : RawGeometry) (from number lnum past : ℕ) (texts : List LogText) → IsLogLeb geo from → Run c geo from number lnum texts past → IsLogLeb geo lnum → left_of geo from past ≤ left_of geo from lnum
-run_fewer c geo from number lnum past [] f h l = let P : ℕ → Type 0 = λ n. left_of geo from n ≤ left_of geo from lnum in subst P h (omega arith)
+run_fewer : (c : ℕ → List ℕ) (geo : RawGeometry) (from number lnum past : ℕ) (texts : List LogText) → IsLogLeb geo from → Run c geo from number lnum texts past → IsLogLeb geo lnum → lebs_left_of geo from past ≤ lebs_left_of geo from lnum
+run_fewer c geo from number lnum past [] f h l = let P : ℕ → Type 0 = λ n. lebs_left_of geo from n ≤ lebs_left_of geo from lnum in subst P h (omega arith)
 run_fewer c geo from number lnum past (text ∷ texts) f h l =
     let less = fewer_left geo from lnum f l h.0 in
     let rest = run_fewer c geo from number (next_leb geo lnum) past texts f h.3 (next_in geo lnum l) in
     omega (arith, less, rest)
 
-among_fewer : (c : ℕ → List ℕ) (geo : RawGeometry) (from number lnum past k : ℕ) (texts : List LogText) → IsLogLeb geo from → Run c geo from number lnum texts past → IsLogLeb geo lnum → IsAmong k texts → left_of geo from k ≤ left_of geo from lnum
+among_fewer : (c : ℕ → List ℕ) (geo : RawGeometry) (from number lnum past k : ℕ) (texts : List LogText) → IsLogLeb geo from → Run c geo from number lnum texts past → IsLogLeb geo lnum → IsAmong k texts → lebs_left_of geo from k ≤ lebs_left_of geo from lnum
 among_fewer c geo from number lnum past k [] f h l there = absurd there
-among_fewer c geo from number lnum past k (text ∷ texts) f h l (inl same) = let P : ℕ → Type 0 = λ n. left_of geo from n ≤ left_of geo from lnum in subst P (sym (same ∙ h.1.here)) (omega arith)
+among_fewer c geo from number lnum past k (text ∷ texts) f h l (inl same) = let P : ℕ → Type 0 = λ n. lebs_left_of geo from n ≤ lebs_left_of geo from lnum in subst P (sym (same ∙ h.1.here)) (omega arith)
 among_fewer c geo from number lnum past k (text ∷ texts) f h l (inr there) =
     let less = fewer_left geo from lnum f l h.0 in
     let rest = among_fewer c geo from number (next_leb geo lnum) past k texts f h.3 (next_in geo lnum l) there in
     omega (arith, less, rest)
 
 -- the LEB behind a run is none of its LEBs
-pub past_other : (c : ℕ → List ℕ) (geo : RawGeometry) (from number lnum past k : ℕ) (texts : List LogText) → IsLogLeb geo from → Run c geo from number lnum texts past → IsLogLeb geo lnum → IsAmong k texts → left_of geo from past < left_of geo from k
+pub past_other : (c : ℕ → List ℕ) (geo : RawGeometry) (from number lnum past k : ℕ) (texts : List LogText) → IsLogLeb geo from → Run c geo from number lnum texts past → IsLogLeb geo lnum → IsAmong k texts → lebs_left_of geo from past < lebs_left_of geo from k
 past_other c geo from number lnum past k [] f h l there = absurd there
 past_other c geo from number lnum past k (text ∷ texts) f h l (inl same) =
     let less = fewer_left geo from lnum f l h.0 in
     let rest = run_fewer c geo from number (next_leb geo lnum) past texts f h.3 (next_in geo lnum l) in
-    let P : ℕ → Type 0 = λ n. left_of geo from past < left_of geo from n in
+    let P : ℕ → Type 0 = λ n. lebs_left_of geo from past < lebs_left_of geo from n in
     subst P (sym (same ∙ h.1.here)) (omega (arith, less, rest))
 past_other c geo from number lnum past k (text ∷ texts) f h l (inr there) = past_other c geo from number (next_leb geo lnum) past k texts f h.3 (next_in geo lnum l) there
 
@@ -53,7 +53,7 @@ pub chain_past : (c : ℕ → List ℕ) (geo : RawGeometry) (from start past : �
 chain_past c geo from start past first more f h = past_in c geo from start (next_leb geo from) past more h.run (next_in geo from f)
 
 -- one LEB more
-pub chain_more : (c : ℕ → List ℕ) (geo : RawGeometry) (from start past : ℕ) (first : LogText) (more : List LogText) (text : LogText) → IsChain c geo from start first more past → past ≢ from → IsTextOf (c past) past text
+pub chain_more : (c : ℕ → List ℕ) (geo : RawGeometry) (from start past : ℕ) (first : LogText) (more : List LogText) (text : LogText) → IsChain c geo from start first more past → past ≢ from → IsLogTextOf (c past) past text
     → IsTrue (is_later start (begins_with text.nodes)) → IsChain c geo from start first (more ++ text ∷ []) (next_leb geo past)
 chain_more c geo from start past first more text h ne is later = record { is_first = h.is_first; starts = h.starts; run = run_then c geo from start (next_leb geo from) past more text h.run ne is later }
 
@@ -95,28 +95,28 @@ pub record Growth : Type 0 where
   pub ends : LogEnd
 
 -- a text with that
-abbrev pub grown_by : Growth → LogText → LogText
-grown_by g text = grown_text text g.nodes g.references g.ends
+abbrev pub log_text_grown : Growth → LogText → LogText
+log_text_grown g text = grown_text text g.nodes g.references g.ends
 
 -- the text of this LEB that ends there grows so
 abbrev pub Grows : Growth → Type 0
-Grows g = (text : LogText) → IsTextOf (g.before g.behind.lnum) g.behind.lnum text → text.ends ≡ g.behind → IsTextOf (g.after g.behind.lnum) g.behind.lnum (grown_by g text)
+Grows g = (text : LogText) → IsLogTextOf (g.before g.behind.lnum) g.behind.lnum text → text.ends ≡ g.behind → IsLogTextOf (g.after g.behind.lnum) g.behind.lnum (log_text_grown g text)
 
 run_grown : (g : Growth) (geo : RawGeometry) (from number lnum past : ℕ) (text : LogText) (texts : List LogText) → IsLogLeb geo from → IsLogLeb geo lnum
     → Run g.before geo from number lnum (text ∷ texts) past → last_end text.ends texts ≡ g.behind → ((k : ℕ) → k ≢ g.behind.lnum → IsAmong k (text ∷ texts) → g.before k ≡ g.after k) → Grows g
-    → Run g.after geo from number lnum (last_more (grown_by g) (text ∷ texts)) past
+    → Run g.after geo from number lnum (last_more (log_text_grown g) (text ∷ texts)) past
 run_grown g geo from number lnum past text [] f l h last same grows =
     let here : g.behind.lnum ≡ lnum = sym (ap (λ (e : LogEnd). e.lnum) last) ∙ h.1.here in
-    let P : ℕ → Type 0 = λ n. IsTextOf (g.before n) n text in
-    let Q : ℕ → Type 0 = λ n. IsTextOf (g.after n) n (grown_by g text) in
+    let P : ℕ → Type 0 = λ n. IsLogTextOf (g.before n) n text in
+    let Q : ℕ → Type 0 = λ n. IsLogTextOf (g.after n) n (log_text_grown g text) in
     (h.0, subst Q here (grows text (subst P (sym here) h.1) last), later_grown number text.nodes g.nodes h.2, h.3)
 run_grown g geo from number lnum past text (other ∷ texts) f l h last same grows =
     let old = g.behind in
     let there = last_among text.ends other texts old last in
     let less = fewer_left geo from lnum f l h.0 in
     let rest = among_fewer g.before geo from number (next_leb geo lnum) past old.lnum (other ∷ texts) f h.3 (next_in geo lnum l) there in
-    let ne : lnum ≢ old.lnum = λ e. let P : ℕ → Type 0 = λ n. left_of geo from n ≤ left_of geo from (next_leb geo lnum) in let again = subst P (sym e) rest in absurd (omega (arith, less, again)) in
-    let P : List ℕ → Type 0 = λ leb. IsTextOf leb lnum text in (
+    let ne : lnum ≢ old.lnum = λ e. let P : ℕ → Type 0 = λ n. lebs_left_of geo from n ≤ lebs_left_of geo from (next_leb geo lnum) in let again = subst P (sym e) rest in absurd (omega (arith, less, again)) in
+    let P : List ℕ → Type 0 = λ leb. IsLogTextOf leb lnum text in (
       h.0,
       subst P (same lnum ne (inl (sym h.1.here))) h.1,
       h.2,
@@ -126,16 +126,16 @@ run_grown g geo from number lnum past text (other ∷ texts) f l h last same gro
 -- the last text grows
 pub chain_grown : (g : Growth) (geo : RawGeometry) (from start past : ℕ) (first : LogText) (more : List LogText) → IsLogLeb geo from
     → IsChain g.before geo from start first more past → last_end first.ends more ≡ g.behind → ((k : ℕ) → k ≢ g.behind.lnum → IsAmong k (first ∷ more) → g.before k ≡ g.after k) → Grows g
-    → IsChain g.after geo from start (last_first (grown_by g) first more) (last_more (grown_by g) more) past
+    → IsChain g.after geo from start (last_first (log_text_grown g) first more) (last_more (log_text_grown g) more) past
 chain_grown g geo from start past first [] f h last same grows =
     let here : g.behind.lnum ≡ from = sym (ap (λ (e : LogEnd). e.lnum) last) ∙ h.is_first.here in
-    let P : ℕ → Type 0 = λ n. IsTextOf (g.before n) n first in
-    let Q : ℕ → Type 0 = λ n. IsTextOf (g.after n) n (grown_by g first) in
+    let P : ℕ → Type 0 = λ n. IsLogTextOf (g.before n) n first in
+    let Q : ℕ → Type 0 = λ n. IsLogTextOf (g.after n) n (log_text_grown g first) in
     record { is_first = subst Q here (grows first (subst P (sym here) h.is_first) last); starts = start_grown start first.nodes g.nodes h.starts; run = h.run }
 chain_grown g geo from start past first (text ∷ texts) f h last same grows =
     let there = last_among first.ends text texts g.behind last in
     let other = among_not_from g.before geo from start (next_leb geo from) past g.behind.lnum (text ∷ texts) h.run there in
-    let P : List ℕ → Type 0 = λ leb. IsTextOf leb from first in
+    let P : List ℕ → Type 0 = λ leb. IsLogTextOf leb from first in
     record {
       is_first = subst P (same from (λ e. other (sym e)) (inl (sym h.is_first.here))) h.is_first;
       starts = h.starts;
@@ -192,8 +192,8 @@ among_grown k first (text ∷ texts) nodes references ends e =
     )
 
 -- the buds of references behind others
-pub buds_behind : (nodes more : List RefNode) → buds_of (nodes ++ more) ≡ fold named (buds_of nodes) more
-buds_behind nodes more = fold-append named [] nodes more
+pub buds_behind : (nodes more : List RefNode) → buds_of (nodes ++ more) ≡ fold named_also (buds_of nodes) more
+buds_behind nodes more = fold-append named_also [] nodes more
 
 -- one LEB more, of these references
 pub references_added : (first : LogText) (more : List LogText) (text : LogText) → references_of (first ∷ (more ++ text ∷ [])) ≡ references_of (first ∷ more) ++ text.references

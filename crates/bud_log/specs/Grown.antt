@@ -9,7 +9,7 @@ use Rattle.leb_scan.specs.declared.found.Found.{Found}
 use Rattle.leb_scan.specs.declared.item.Item.{Item}
 use Rattle.leb_scan.specs.declared.item.Item.TheVariants.{Node, Padding, Word}
 use Rattle.leb_scan.specs.declared.tail.Tail.{Tail}
-use Rattle.bud_log.specs.LogText.{LogText, Refer, IsTextOf}
+use Rattle.bud_log.specs.LogText.{LogText, Refer, IsLogTextOf}
 use Rattle.bud_log.specs.declared.log_end.LogEnd.{LogEnd}
 use Rattle.bud_log.specs.References.{refer_then}
 
@@ -39,8 +39,8 @@ refer_alike a b end place (Padding found pad_len ∷ items) references same s h 
 abbrev pub grown_text : LogText → List Found → List RefNode → LogEnd → LogText
 grown_text text nodes references ends = record { nodes = text.nodes ++ nodes; references = text.references ++ references; ends = ends }
 
-pub grown : (a b : List ℕ) (lnum end : ℕ) (tail : Tail) (text : LogText) (items : List Item) (more : List RefNode) → IsTextOf a lnum text → take text.ends.offs a ≡ take text.ends.offs b → length a ≡ length b
-    → IsText b text.ends.offs items end tail → Refer b (nodes_of items) more → IsTextOf b lnum (grown_text text (nodes_of items) more (record { lnum = lnum; offs = end; tail = tail }))
+pub grown : (a b : List ℕ) (lnum end : ℕ) (tail : Tail) (text : LogText) (items : List Item) (more : List RefNode) → IsLogTextOf a lnum text → take text.ends.offs a ≡ take text.ends.offs b → length a ≡ length b
+    → IsText b text.ends.offs items end tail → Refer b (nodes_of items) more → IsLogTextOf b lnum (grown_text text (nodes_of items) more (record { lnum = lnum; offs = end; tail = tail }))
 grown a b lnum end tail text items more h same long is refer =
     let place = text.ends.offs in
     let front = stand_alike a b place 0 h.items same long h.is_text.stand in

@@ -14,9 +14,9 @@ use Rattle.bud_log.specs.LogAnswers.{StartsWith, IsSection}
 use Rattle.bud_log.specs.LogAt.{LogAt, IsAt, steps_to}
 use Rattle.bud_log.specs.LogLaws.{older_more, next_in}
 use Rattle.bud_log.specs.LogText.{LogText, begins_with, start_of, is_start_alone, IsNoLoneStart}
-use Rattle.bud_log.specs.RingRuns.{OneText}
+use Rattle.bud_log.specs.RingRuns.{OneLebText}
 use Rattle.bud_log.specs.RingSteps.{steps_more}
-use Rattle.bud_log.specs.Writing.{IsOlder, last_end, GoesOn, IsReady}
+use Rattle.bud_log.specs.Writing.{IsOlder, last_end, GoesOn, IsLogReady}
 use Rattle.bud_log.specs.declared.head_at.HeadAt.{HeadAt}
 use Rattle.bud_log.specs.declared.log_end.LogEnd.{LogEnd}
 
@@ -27,11 +27,11 @@ run_past c geo from number l past lnum first [] h e last = sym h ∙ e ∙ ap (n
 run_past c geo from number l past lnum first (text ∷ texts) h e last = run_past c geo from number (next_leb geo l) past lnum text.ends texts h.3 (ap (next_leb geo) (sym h.1.here)) last
 
 -- the LEB behind the last that is read is the one behind that in which the log goes on
-pub IsReady-past : (a : VolumeState) (geo : RawGeometry) (from lnum offs number : ℕ) (buds : List HeadAt) (h : IsReady a geo from lnum offs number buds) → h.past ≡ next_leb geo lnum
+pub IsReady-past : (a : VolumeState) (geo : RawGeometry) (from lnum offs number : ℕ) (buds : List HeadAt) (h : IsLogReady a geo from lnum offs number buds) → h.past ≡ next_leb geo lnum
 IsReady-past a geo from lnum offs number buds h = run_past a.holds geo from h.start (next_leb geo from) h.past lnum h.first.ends h.more h.chain.run (ap (next_leb geo) (sym h.chain.is_first.here)) (goes_lnum geo (last_end h.first.ends h.more) lnum offs h.last)
 
 -- and its first commit start has the number that the LEB begins with
-pub IsReady-start : OneText → (a : VolumeState) (geo : RawGeometry) (from lnum offs number start : ℕ) (buds : List HeadAt) (h : IsReady a geo from lnum offs number buds) → IsBytes (a.holds from) → StartsWith (a.holds from) from start → h.start ≡ start
+pub IsReady-start : OneLebText → (a : VolumeState) (geo : RawGeometry) (from lnum offs number start : ℕ) (buds : List HeadAt) (h : IsLogReady a geo from lnum offs number buds) → IsBytes (a.holds from) → StartsWith (a.holds from) from start → h.start ≡ start
 IsReady-start one a geo from lnum offs number start buds h fits (text, is, starts) =
     let first = h.first in
     let k = h.chain.is_first in
@@ -41,7 +41,7 @@ IsReady-start one a geo from lnum offs number start buds h fits (text, is, start
     cc
 
 -- A log whose present section stands as it was started is held. Opened over what is told of it, it goes on in the same LEB, where nothing counts as written.
-pub IsReady-unmounted : OneText → (a : VolumeState) (at : LogAt) (number low : ℕ) (buds : List HeadAt) → IsReady a at.geo at.section at.lnum at.offs number buds → IsAt a at → IsSection a at low → ((k : ℕ) → IsLogLeb at.geo k → IsBytes (a.holds k)) → ((k : ℕ) → IsLogLeb at.geo k → a.left_now k (a.holds k))
+pub IsReady-unmounted : OneLebText → (a : VolumeState) (at : LogAt) (number low : ℕ) (buds : List HeadAt) → IsLogReady a at.geo at.section at.lnum at.offs number buds → IsAt a at → IsSection a at low → ((k : ℕ) → IsLogLeb at.geo k → IsBytes (a.holds k)) → ((k : ℕ) → IsLogLeb at.geo k → a.left_now k (a.holds k))
     → (log : Log) × IsHeldLog a at.geo at.section number log × (log.buds ≡ buds) × IsOpenBehind a at.geo log.ends × (log.ends.lnum ≡ at.lnum)
 IsReady-unmounted one a at number low buds h is_at section fits held =
     let geo = at.geo in

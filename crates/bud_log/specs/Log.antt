@@ -4,7 +4,7 @@ use Rattle.ubifs_base.specs.Areas.{lpt_first}
 use Rattle.ubifs_base.specs.declared.raw_geometry.RawGeometry.{RawGeometry}
 use Rattle.media_sys.specs.declared.ref_node.RefNode.{RefNode}
 use Rattle.bud_log.specs.Buds.{buds_of}
-use Rattle.bud_log.specs.LogText.{LogText, IsTextOf, begins_with, start_of, BeginsCommit, is_later, greatest_found, is_start_alone}
+use Rattle.bud_log.specs.LogText.{LogText, IsLogTextOf, begins_with, start_of, BeginsCommit, is_later, greatest_found, is_start_alone}
 use Rattle.bud_log.specs.declared.head_at.HeadAt.{HeadAt}
 use Rattle.bud_log.specs.declared.log_end.LogEnd.{LogEnd}
 use Rattle.bud_log.specs.declared.log_read.LogRead.{LogRead}
@@ -22,11 +22,11 @@ next_leb geo lnum = if nat_lt (lnum + 1) (lpt_first geo) then lnum + 1 else 3
 abbrev pub Run : (ℕ → List ℕ) → RawGeometry → ℕ → ℕ → ℕ → List LogText → ℕ → Type 0
 Run contents geo from number lnum [] past = lnum ≡ past
 Run contents geo from number lnum (text ∷ texts) past =
-    (lnum ≢ from) × IsTextOf (contents lnum) lnum text × IsTrue (is_later number (begins_with text.nodes)) × Run contents geo from number (next_leb geo lnum) texts past
+    (lnum ≢ from) × IsLogTextOf (contents lnum) lnum text × IsTrue (is_later number (begins_with text.nodes)) × Run contents geo from number (next_leb geo lnum) texts past
 
 -- and this LEB isn't read: it is the first again, or doesn't begin with a greater number
 abbrev pub Stops : (ℕ → List ℕ) → ℕ → ℕ → ℕ → Type 0
-Stops contents from number past = (past ≡ from) ⊎ ((text : LogText) × IsTextOf (contents past) past text × IsFalse (is_later number (begins_with text.nodes)))
+Stops contents from number past = (past ≡ from) ⊎ ((text : LogText) × IsLogTextOf (contents past) past text × IsFalse (is_later number (begins_with text.nodes)))
 
 -- the texts that are read behind the first, which begins with a commit start of this number, or with none
 abbrev pub AreFurther : (ℕ → List ℕ) → RawGeometry → ℕ → Option ℕ → List LogText → Type 0
@@ -43,10 +43,10 @@ abbrev pub greatest_of : ℕ → List LogText → ℕ
 greatest_of low texts = fold (λ n (text : LogText). max n (greatest_found text.nodes)) low texts
 
 -- where the log ends: where the last text does, or the one before it where the last is a commit start alone, and not the first
-abbrev pub end_of : LogEnd → List LogText → LogEnd
-end_of first [] = first
-end_of first (text ∷ []) = if is_start_alone text.nodes then first else text.ends
-end_of first (text ∷ (other ∷ more)) = end_of text.ends (other ∷ more)
+abbrev pub log_end_of : LogEnd → List LogText → LogEnd
+log_end_of first [] = first
+log_end_of first (text ∷ []) = if is_start_alone text.nodes then first else text.ends
+log_end_of first (text ∷ (other ∷ more)) = log_end_of text.ends (other ∷ more)
 
 -- the number of the commit with whose start a log begins, if it begins with one, the buds that it names, the greatest sequence number of its nodes, and where it ends
 pub record Log : Type 0 where
@@ -59,12 +59,12 @@ pub record Log : Type 0 where
 pub record IsLog (contents : ℕ → List ℕ) (geo : RawGeometry) (from : ℕ) (log : Log) : Type 0 where
   pub first : LogText
   pub more : List LogText
-  pub is_first : IsTextOf (contents from) from first
+  pub is_first : IsLogTextOf (contents from) from first
   pub are_further : AreFurther contents geo from (start_of (begins_with first.nodes)) more
   pub commit : BeginsCommit (contents from) (begins_with first.nodes) log.commit
   pub buds : log.buds ≡ buds_of (references_of (first ∷ more))
   pub sqnum : log.sqnum ≡ greatest_of 0 (first ∷ more)
-  pub ends : log.ends ≡ end_of first.ends more
+  pub ends : log.ends ≡ log_end_of first.ends more
 
 -- a log as it was read
 abbrev pub log_of : LogRead → Log

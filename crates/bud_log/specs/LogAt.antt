@@ -37,8 +37,8 @@ pub record IsAt (state : VolumeState) (at : LogAt) : Type 0 where
   pub is_open : state.written at.lnum ≤ at.offs
 
 -- a LEB from which the log may be read: that of the oldest section, or of the present one
-abbrev pub IsStart : LogAt → ℕ → Type 0
-IsStart at from = (from ≡ at.first) ⊎ (from ≡ at.section)
+abbrev pub IsLogStart : LogAt → ℕ → Type 0
+IsLogStart at from = (from ≡ at.first) ⊎ (from ≡ at.section)
 
 -- a LEB of the ring from one on and before another
 pub record IsBetween (geo : RawGeometry) (from to lnum : ℕ) : Type 0 where
@@ -46,12 +46,12 @@ pub record IsBetween (geo : RawGeometry) (from to lnum : ℕ) : Type 0 where
   pub before : steps_to geo from lnum < steps_to geo from to
 
 -- a LEB of a section before the present one
-abbrev pub IsEnded : LogAt → ℕ → Type 0
-IsEnded at lnum = IsBetween at.geo at.first at.section lnum
+abbrev pub IsOfEarlierSection : LogAt → ℕ → Type 0
+IsOfEarlierSection at lnum = IsBetween at.geo at.first at.section lnum
 
 -- the bytes that n bytes take, with the padding to the unit
-abbrev pub room_of : ℕ → ℕ → ℕ
-room_of unit n = (n + (unit - 1)) / unit * unit
+abbrev pub padded_room_of : ℕ → ℕ → ℕ
+padded_room_of unit n = (n + (unit - 1)) / unit * unit
 
 -- the LEBs of the ring in use, and how many may be: two are kept free while no commit runs, and one while one runs
 abbrev pub used_lebs : LogAt → ℕ
@@ -66,11 +66,11 @@ IsWithin at = used_lebs at ≤ most_lebs at
 
 -- whether a reference has room in the present LEB
 abbrev pub has_room : LogAt → Bool
-has_room at = nat_le (at.offs + room_of at.geo.min_io 64) at.geo.leb_size
+has_room at = nat_le (at.offs + padded_room_of at.geo.min_io 64) at.geo.leb_size
 
 -- no unit is left outside the kept LEBs
-abbrev pub IsFull : LogAt → Type 0
-IsFull at = IsFalse (has_room at) × (most_lebs at ≤ used_lebs at)
+abbrev pub IsLogFull : LogAt → Type 0
+IsLogFull at = IsFalse (has_room at) × (most_lebs at ≤ used_lebs at)
 
 -- where nodes go: behind the end of the log, or to the start of the next LEB
 abbrev pub lnum_at : Bool → LogAt → ℕ
@@ -97,8 +97,8 @@ abbrev pub starting : LogAt → ℕ → ℕ → LogAt
 starting at lnum offs = record { geo = at.geo; first = at.first; section = lnum; lnum = lnum; offs = offs }
 
 -- the sections before the present one are needed no more
-abbrev pub without_old : LogAt → LogAt
-without_old at = record { geo = at.geo; first = at.section; section = at.section; lnum = at.lnum; offs = at.offs }
+abbrev pub without_old_sections : LogAt → LogAt
+without_old_sections at = record { geo = at.geo; first = at.section; section = at.section; lnum = at.lnum; offs = at.offs }
 
 -- the reference to a place where a head goes on
 abbrev pub reference_to : HeadAt → RefNode
@@ -119,9 +119,9 @@ section_nodes cmt_no heads = commit_start (record { cmt_no = cmt_no }) ∷ head_
 
 -- Full comes exactly where the log is full, with its numbers, and the volume is as it was then
 abbrev pub IsFullExactly : {T : Type 0} → VolumeState → VolumeState → LogAt → Result T LogFault → Type 0
-IsFullExactly old new at (Ok x) = IsFull at → ⊥
-IsFullExactly old new at (Err (Volume count)) = IsFull at → ⊥
-IsFullExactly old new at (Err (Full used limit)) = IsFull at × (used ≡ used_lebs at) × (limit ≡ most_lebs at) × Keeps old new
+IsFullExactly old new at (Ok x) = IsLogFull at → ⊥
+IsFullExactly old new at (Err (Volume count)) = IsLogFull at → ⊥
+IsFullExactly old new at (Err (Full used limit)) = IsLogFull at × (used ≡ used_lebs at) × (limit ≡ most_lebs at) × Keeps old new
 
 -- a number rises by one where the node is written, and not where the log is full; where the volume failed, it stays only if the log is as it was
 abbrev pub IsRaised : {T : Type 0} → ℕ → ℕ → Type 0 → Result T LogFault → Type 0

@@ -12,7 +12,7 @@ pub record IsEmptied (old new : VolumeState) (lnum : ℕ) : Type 0 where
   pub left : Only (filled old.leb_size []) (new.left_now lnum)
 
 -- the LEB was unmapped, and these bytes were written at its start
-pub record IsBegun (old new : VolumeState) (lnum : ℕ) (bytes : List ℕ) : Type 0 where
+pub record IsLebBegun (old new : VolumeState) (lnum : ℕ) (bytes : List ℕ) : Type 0 where
   pub holds : new.holds lnum ≡ put 0 bytes (filled old.leb_size [])
   pub written : new.written lnum ≡ length bytes
   pub left : Only (put 0 bytes (filled old.leb_size [])) (new.left_now lnum)
@@ -24,7 +24,7 @@ BeginUnderWay old lnum n c = ChangeUnderWay old lnum [] c ⊎ Torn 0 n (filled o
 -- bytes are added to a log: behind its end, or at the start of the next LEB
 abbrev pub IsAdded : Bool → VolumeState → VolumeState → LogAt → List ℕ → Type 0
 IsAdded true old new at bytes = IsWritten old new at.lnum at.offs bytes
-IsAdded false old new at bytes = IsBegun old new (next_leb at.geo at.lnum) bytes
+IsAdded false old new at bytes = IsLebBegun old new (next_leb at.geo at.lnum) bytes
 
 -- what a cut during that leaves of that LEB, with n bytes
 abbrev pub AddDuring : Bool → VolumeState → LogAt → ℕ → List ℕ → Type 0

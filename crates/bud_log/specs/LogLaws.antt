@@ -13,9 +13,9 @@ use Rattle.leb_scan.specs.Text.{is_blank}
 use Rattle.leb_scan.specs.declared.tail.Tail.TheVariants.{Clean}
 use Rattle.leb_scan.specs.declared.found.Found.{Found}
 use Rattle.bud_log.specs.Log.{IsLogLeb, next_leb, Run, Stops, AreFurther, Log, IsLog}
-use Rattle.bud_log.specs.LogAt.{room_of}
-use Rattle.bud_log.specs.LogText.{LogText, IsTextOf, begins_with, start_of, BeginsCommit, is_later}
-use Rattle.bud_log.specs.Writing.{IsAmong, IsOlder, AreBelow, AreOthersOlder, IsPassedOver, IsChain, IsReady}
+use Rattle.bud_log.specs.LogAt.{padded_room_of}
+use Rattle.bud_log.specs.LogText.{LogText, IsLogTextOf, begins_with, start_of, BeginsCommit, is_later}
+use Rattle.bud_log.specs.Writing.{IsAmong, IsOlder, AreBelow, AreOthersOlder, IsPassedOver, IsChain, IsLogReady}
 use Rattle.bud_log.specs.declared.head_at.HeadAt.{HeadAt}
 
 -- the next LEB is one of the log
@@ -47,13 +47,13 @@ among_log c geo from start past k first more f h (inr there) = run_log c geo fro
 run_alike : (c d : ℕ → List ℕ) (geo : RawGeometry) (from number lnum past : ℕ) (texts : List LogText) → ((k : ℕ) → IsAmong k texts → c k ≡ d k) → Run c geo from number lnum texts past → Run d geo from number lnum texts past
 run_alike c d geo from number lnum past [] same h = h
 run_alike c d geo from number lnum past (text ∷ texts) same h =
-    let P : List ℕ → Type 0 = λ leb. IsTextOf leb lnum text in
+    let P : List ℕ → Type 0 = λ leb. IsLogTextOf leb lnum text in
     (h.0, subst P (same lnum (inl (sym h.1.here))) h.1, h.2, run_alike c d geo from number (next_leb geo lnum) past texts (λ k there. same k (inr there)) h.3)
 
 -- contents that are alike where texts are read
 pub chain_alike : (c d : ℕ → List ℕ) (geo : RawGeometry) (from start past : ℕ) (first : LogText) (more : List LogText) → ((k : ℕ) → IsAmong k (first ∷ more) → c k ≡ d k) → IsChain c geo from start first more past → IsChain d geo from start first more past
 chain_alike c d geo from start past first more same h =
-    let P : List ℕ → Type 0 = λ leb. IsTextOf leb from first in
+    let P : List ℕ → Type 0 = λ leb. IsLogTextOf leb from first in
     record {
       is_first = subst P (same from (inl (sym h.is_first.here))) h.is_first;
       starts = h.starts;
@@ -95,7 +95,7 @@ chain_older c geo from start past number k first more h below (inr there) = run_
 -- What `start_section` asks of the other LEBs: they begin with no number above the one given.
 
 -- whatever a cut leaves of a log that is ready for its next node
-pub IsReady-older : (a : VolumeState) (geo : RawGeometry) (from lnum offs number there : ℕ) (buds : List HeadAt) → IsReady a geo from lnum offs number buds → AreOthersOlder a geo there number
+pub IsReady-older : (a : VolumeState) (geo : RawGeometry) (from lnum offs number there : ℕ) (buds : List HeadAt) → IsLogReady a geo from lnum offs number buds → AreOthersOlder a geo there number
 IsReady-older a geo from lnum offs number there buds h = λ k leb is ne left. elim (among_or k (h.first ∷ h.more)) [
   | inl among ↦
       let P : List ℕ → Type 0 = λ bytes. IsOlder number k bytes in
@@ -121,13 +121,13 @@ run_same : (c d : ℕ → List ℕ) (geo : RawGeometry) (from number lnum past :
     → Run d geo from number lnum texts past × IsLogLeb geo past
 run_same c d geo from number lnum past [] l same h = let P : ℕ → Type 0 = λ n. IsLogLeb geo n in (h, subst P h l)
 run_same c d geo from number lnum past (text ∷ texts) l same h =
-    let P : List ℕ → Type 0 = λ leb. IsTextOf leb lnum text in
+    let P : List ℕ → Type 0 = λ leb. IsLogTextOf leb lnum text in
     let rest = run_same c d geo from number (next_leb geo lnum) past texts (next_in geo lnum l) same h.3 in
     ((h.0, subst P (same lnum l) h.1, h.2, rest.0), rest.1)
 
 stops_same : (c d : ℕ → List ℕ) (from number past : ℕ) → c past ≡ d past → Stops c from number past → Stops d from number past
 stops_same c d from number past same (inl e) = inl e
-stops_same c d from number past same (inr (text, is, not_later)) = let P : List ℕ → Type 0 = λ leb. IsTextOf leb past text in inr (text, subst P same is, not_later)
+stops_same c d from number past same (inr (text, is, not_later)) = let P : List ℕ → Type 0 = λ leb. IsLogTextOf leb past text in inr (text, subst P same is, not_later)
 
 pub further_same : (c d : ℕ → List ℕ) (geo : RawGeometry) (from : ℕ) (start : Option ℕ) (more : List LogText) → IsLogLeb geo from → ((k : ℕ) → IsLogLeb geo k → c k ≡ d k) → AreFurther c geo from start more → AreFurther d geo from start more
 further_same c d geo from None more f same h = h
@@ -137,7 +137,7 @@ further_same c d geo from (Some number) more f same (past, run, stops) =
 
 pub IsLog-same : (c d : ℕ → List ℕ) (geo : RawGeometry) (from : ℕ) (log : Log) → IsLogLeb geo from → ((k : ℕ) → IsLogLeb geo k → c k ≡ d k) → IsLog c geo from log → IsLog d geo from log
 IsLog-same c d geo from log f same h =
-    let P : List ℕ → Type 0 = λ leb. IsTextOf leb from h.first in
+    let P : List ℕ → Type 0 = λ leb. IsLogTextOf leb from h.first in
     let Q : List ℕ → Type 0 = λ leb. BeginsCommit leb (begins_with h.first.nodes) log.commit in
     record {
       first = h.first;
@@ -158,7 +158,7 @@ passed-later start number next past k leb later (inr (here, text, is, alone, bel
 -- A volume stays ready.
 
 -- when sequence numbers rise
-pub IsReady-later : (a : VolumeState) (geo : RawGeometry) (from lnum offs number next : ℕ) (buds : List HeadAt) → number ≤ next → IsReady a geo from lnum offs number buds → IsReady a geo from lnum offs next buds
+pub IsReady-later : (a : VolumeState) (geo : RawGeometry) (from lnum offs number next : ℕ) (buds : List HeadAt) → number ≤ next → IsLogReady a geo from lnum offs number buds → IsLogReady a geo from lnum offs next buds
 IsReady-later a geo from lnum offs number next buds later h =
     let low = h.low in
     record {
@@ -176,7 +176,7 @@ IsReady-later a geo from lnum offs number next buds later h =
     }
 
 -- where the LEBs of its log are as they were
-pub IsReady-same : (a b : VolumeState) (geo : RawGeometry) (from lnum offs number : ℕ) (buds : List HeadAt) → IsLogLeb geo from → ((k : ℕ) → IsLogLeb geo k → IsSameLeb a b k) → IsReady a geo from lnum offs number buds → IsReady b geo from lnum offs number buds
+pub IsReady-same : (a b : VolumeState) (geo : RawGeometry) (from lnum offs number : ℕ) (buds : List HeadAt) → IsLogLeb geo from → ((k : ℕ) → IsLogLeb geo k → IsSameLeb a b k) → IsLogReady a geo from lnum offs number buds → IsLogReady b geo from lnum offs number buds
 IsReady-same a b geo from lnum offs number buds f same h =
     let in_log : (k : ℕ) → IsAmong k (h.first ∷ h.more) → IsLogLeb geo k = λ k there. among_log a.holds geo from h.start h.past k h.first h.more f h.chain there in
     record {
@@ -195,13 +195,13 @@ IsReady-same a b geo from lnum offs number buds f same h =
 
 -- while calls touch other LEBs alone
 pub IsReady-elsewhere : (a b : VolumeState) (geo : RawGeometry) (from lnum offs number : ℕ) (buds : List HeadAt) (Touched : ℕ → Type 0) (Left : (ℕ → List ℕ) → Type 0) → IsLogLeb geo from → ((k : ℕ) → IsLogLeb geo k → Touched k → ⊥) → Works a b Touched Left
-    → IsReady a geo from lnum offs number buds → IsReady b geo from lnum offs number buds
+    → IsLogReady a geo from lnum offs number buds → IsLogReady b geo from lnum offs number buds
 IsReady-elsewhere a b geo from lnum offs number buds Touched Left f apart works h = IsReady-same a b geo from lnum offs number buds f (λ k is. works.others k (apart k is)) h
 
 -- A section has room.
 
 -- what is no longer than a unit takes one
-room-one : (unit n : ℕ) → n ≤ unit → room_of unit n ≤ unit
+room-one : (unit n : ℕ) → n ≤ unit → padded_room_of unit n ≤ unit
 room-one unit n fits =
     let q = (n + (unit - 1)) / unit in
     elim (cases_lt q 2) [
@@ -213,7 +213,7 @@ room-one unit n fits =
     ]
 
 -- a commit start with the references of all heads, and two more references, each padded to the unit, fit a LEB
-pub section-room : (geo : RawGeometry) (heads : ℕ) → IsGeometry geo → heads ≤ 3 → room_of geo.min_io (32 + 64 * heads) + 2 * room_of geo.min_io 64 ≤ geo.leb_size
+pub section-room : (geo : RawGeometry) (heads : ℕ) → IsGeometry geo → heads ≤ 3 → padded_room_of geo.min_io (32 + 64 * heads) + 2 * padded_room_of geo.min_io 64 ≤ geo.leb_size
 section-room geo heads h three =
     let unit = geo.min_io in
     let size = geo.leb_size in
@@ -222,8 +222,8 @@ section-room geo heads h three =
     let reserve = h.leb_size.3 in
     elim (cases_lt unit 224) [
       | inl small ↦
-          let a : room_of unit len ≤ len + (unit - 1) = div-mul-le_self (len + (unit - 1)) unit in
-          let b : room_of unit 64 ≤ 64 + (unit - 1) = div-mul-le_self (64 + (unit - 1)) unit in
+          let a : padded_room_of unit len ≤ len + (unit - 1) = div-mul-le_self (len + (unit - 1)) unit in
+          let b : padded_room_of unit 64 ≤ 64 + (unit - 1) = div-mul-le_self (64 + (unit - 1)) unit in
           omega (arith, small, low, a, b, three)
       | inr large ↦
           let a = room-one unit len (omega (arith, large, three)) in

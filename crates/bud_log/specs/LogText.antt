@@ -28,7 +28,7 @@ Refer leb (found ∷ nodes) references =
     ⊎ ((found.kind ≡ types.Reference) × (node : RefNode) × (others : List RefNode) × IsReferenceAt leb found node × (references ≡ node ∷ others) × Refer leb nodes others)
 
 -- the LEB of this number has this text
-pub record IsTextOf (leb : List ℕ) (lnum : ℕ) (text : LogText) : Type 0 where
+pub record IsLogTextOf (leb : List ℕ) (lnum : ℕ) (text : LogText) : Type 0 where
   pub items : List Item
   pub is_text : IsText leb 0 items text.ends.offs text.ends.tail
   pub here : text.ends.lnum ≡ lnum
@@ -40,9 +40,9 @@ abbrev pub IsStartAt : List ℕ → Found → CommitStart → Type 0
 IsStartAt leb found node = IsCommitStart (take found.len (drop found.offs leb)) found.sqnum found.group node
 
 -- the first of these nodes
-abbrev pub first_of : List Found → Option Found
-first_of [] = None
-first_of (found ∷ nodes) = Some found
+abbrev pub first_found_node : List Found → Option Found
+first_found_node [] = None
+first_found_node (found ∷ nodes) = Some found
 
 -- if it stands at the LEB's start
 abbrev pub at_start : Option Found → Option Found
@@ -51,7 +51,7 @@ at_start (Some found) = if found.offs == 0 then Some found else None
 
 -- the node with which a LEB of these nodes begins
 abbrev pub begins_with : List Found → Option Found
-begins_with nodes = at_start (first_of nodes)
+begins_with nodes = at_start (first_found_node nodes)
 
 -- the number of the commit start with which a LEB begins
 abbrev pub start_of : Option Found → Option ℕ
@@ -67,7 +67,7 @@ BeginsCommit leb (Some found) commit =
 
 -- the LEB begins with the start of the commit of this number
 abbrev pub StartsCommit : List ℕ → ℕ → ℕ → Type 0
-StartsCommit leb lnum cmt_no = (text : LogText) × IsTextOf leb lnum text × BeginsCommit leb (begins_with text.nodes) (Some cmt_no)
+StartsCommit leb lnum cmt_no = (text : LogText) × IsLogTextOf leb lnum text × BeginsCommit leb (begins_with text.nodes) (Some cmt_no)
 
 -- whether a LEB begins with a node whose number is greater than this one
 abbrev pub is_later : ℕ → Option Found → Bool
@@ -94,8 +94,8 @@ is_start_alone nodes = is_one_start (others nodes)
 
 -- the LEB's text is a commit start alone
 abbrev pub IsLoneStart : List ℕ → ℕ → Type 0
-IsLoneStart leb lnum = (text : LogText) × IsTextOf leb lnum text × (is_start_alone text.nodes ≡ true)
+IsLoneStart leb lnum = (text : LogText) × IsLogTextOf leb lnum text × (is_start_alone text.nodes ≡ true)
 
 -- the LEB's text is something else
 abbrev pub IsNoLoneStart : List ℕ → ℕ → Type 0
-IsNoLoneStart leb lnum = (text : LogText) × IsTextOf leb lnum text × (is_start_alone text.nodes ≡ false)
+IsNoLoneStart leb lnum = (text : LogText) × IsLogTextOf leb lnum text × (is_start_alone text.nodes ≡ false)

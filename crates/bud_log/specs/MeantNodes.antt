@@ -15,7 +15,7 @@ use Rattle.leb_scan.specs.declared.found.Found.{Found}
 use Rattle.leb_scan.specs.declared.item.Item.{Item}
 use Rattle.leb_scan.specs.declared.item.Item.TheVariants.{Node}
 use Rattle.leb_scan.specs.declared.tail.Tail.TheVariants.{Clean}
-use Rattle.bud_log.specs.Writing.{IsSpelled, AreSpelled, laid, AreNodes, ArePart, IsMeant}
+use Rattle.bud_log.specs.Writing.{IsNodeSpelled, AreSpelled, laid, AreNodes, ArePart, IsLogMeant}
 
 -- a node of this number at this place
 abbrev pub node_at : ℕ → ℕ → SystemNode → Found
@@ -35,7 +35,7 @@ pub record IsFront (leb : List ℕ) (place number : ℕ) (node : SystemNode) (re
   pub inside : place + length (written number 0 node) ≤ length leb
   pub even : (place + length (written number 0 node)) % 8 ≡ 0
 
-pub node_front : (leb : List ℕ) (place number : ℕ) (node : SystemNode) (rest : List ℕ) → IsSpelled number node → drop place leb ≡ written number 0 node ++ rest → place ≤ length leb → place % 8 ≡ 0 → IsFront leb place number node rest
+pub node_front : (leb : List ℕ) (place number : ℕ) (node : SystemNode) (rest : List ℕ) → IsNodeSpelled number node → drop place leb ≡ written number 0 node ++ rest → place ≤ length leb → place % 8 ≡ 0 → IsFront leb place number node rest
 node_front leb place number node rest its here room even =
     let w : List ℕ = written number 0 node in
     let n : ℕ = length w in
@@ -94,7 +94,7 @@ first_part meant left place number (node ∷ nodes) gap back (one ∷ first) res
     subst R its.0 (record { offs = refl; sqnum = refl; kind = refl; bytes = here.0 ∙ at.front }, more)
 
 shown_meant : (left : List ℕ) (place end number : ℕ) (nodes : List SystemNode) (first rest : List Item) (shown : ℕ) → ArePart left place number nodes (nodes_of first) → is_blank (drop end left) ≡ true → Stand left place first shown
-    → ((rest ≡ []) × (shown ≡ end)) ⊎ IsText left place first shown (tail_at left shown) → IsMeant number place nodes left
+    → ((rest ≡ []) × (shown ≡ end)) ⊎ IsText left place first shown (tail_at left shown) → IsLogMeant number place nodes left
 shown_meant left place end number nodes first rest shown part blank stand (inl (none, all)) =
     let P : ℕ → Type 0 = λ p. Stand left place first p in
     record { items = first; end = end; tail = Clean; is_text = record { stand = subst P all stand; ends = blank }; part = part }
@@ -102,7 +102,7 @@ shown_meant left place end number nodes first rest shown part blank stand (inr t
 
 -- Where nodes go behind a clean text, and what a cut left differs from what was there in their bytes alone: the premise on checksums, of the items of these nodes, gives the one of this crate.
 pub meant_nodes : (before left bytes : List ℕ) (place number : ℕ) (nodes : List SystemNode) (h : AreNodes bytes number nodes) → place + length bytes ≤ length before → place % 8 ≡ 0 → is_blank (drop place before) ≡ true
-    → length left ≡ length before → drop (place + length bytes) left ≡ drop (place + length bytes) before → AreMeant (put place bytes before) place (laid_items place number nodes h.gap) left → IsMeant number place nodes left
+    → length left ≡ length before → drop (place + length bytes) left ≡ drop (place + length bytes) before → AreMeant (put place bytes before) place (laid_items place number nodes h.gap) left → IsLogMeant number place nodes left
 meant_nodes before left bytes place number nodes h room even clean long outside meant =
     let whole : List ℕ = put place bytes before in
     let front : List ℕ = take place before in

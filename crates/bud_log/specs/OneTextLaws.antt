@@ -6,17 +6,17 @@ use Rattle.media_sys.specs.declared.ref_node.RefNode.{RefNode}
 use Rattle.leb_scan.specs.Text.{nodes_of}
 use Rattle.leb_scan.specs.declared.found.Found.{Found}
 use Rattle.bud_log.specs.Bytes.{bytes_drop, bytes_take}
-use Rattle.bud_log.specs.LogText.{IsReferenceAt, IsTextOf, LogText, Refer}
-use Rattle.bud_log.specs.References.{OneNode, reference_same}
-use Rattle.bud_log.specs.RingRuns.{OneText, ends_same}
+use Rattle.bud_log.specs.LogText.{IsReferenceAt, IsLogTextOf, LogText, Refer}
+use Rattle.bud_log.specs.References.{OneSystemNode, reference_same}
+use Rattle.bud_log.specs.RingRuns.{OneLebText, ends_same}
 
 -- a node is one reference
-pub one_reference : OneNode → (leb : List ℕ) (found : Found) (m n : RefNode) → IsBytes leb → IsReferenceAt leb found m → IsReferenceAt leb found n → m ≡ n
+pub one_reference : OneSystemNode → (leb : List ℕ) (found : Found) (m n : RefNode) → IsBytes leb → IsReferenceAt leb found m → IsReferenceAt leb found n → m ≡ n
 one_reference one leb found m n fits is also =
     let bytes = take found.len (drop found.offs leb) in
     reference_same m n (one bytes found.sqnum found.group found.sqnum found.group (reference m) (reference n) (bytes_take found.len (drop found.offs leb) (bytes_drop found.offs leb fits)) is also).2
 
-one_refer : OneNode → (leb : List ℕ) → IsBytes leb → (nodes : List Found) (a b : List RefNode) → Refer leb nodes a → Refer leb nodes b → a ≡ b
+one_refer : OneSystemNode → (leb : List ℕ) → IsBytes leb → (nodes : List Found) (a b : List RefNode) → Refer leb nodes a → Refer leb nodes b → a ≡ b
 one_refer one leb fits [] a b h k = h ∙ sym k
 one_refer one leb fits (found ∷ nodes) a b (inl (other, h)) (inl (again, k)) = one_refer one leb fits nodes a b h k
 one_refer one leb fits (found ∷ nodes) a b (inl (other, h)) (inr (kind, node, more, is, e, k)) = absurd (other kind)
@@ -31,7 +31,7 @@ text_same a b n r e =
     ∙ ap (λ ends. record b { ends = ends }) e
 
 -- a LEB has one text
-pub one_log_text : OneNode → OneText → (leb : List ℕ) (lnum : ℕ) (a b : LogText) → IsBytes leb → IsTextOf leb lnum a → IsTextOf leb lnum b → a ≡ b
+pub one_log_text : OneSystemNode → OneLebText → (leb : List ℕ) (lnum : ℕ) (a b : LogText) → IsBytes leb → IsLogTextOf leb lnum a → IsLogTextOf leb lnum b → a ≡ b
 one_log_text one text leb lnum a b fits h k =
     let same = text leb 0 a.ends.offs b.ends.offs h.items k.items a.ends.tail b.ends.tail fits h.is_text k.is_text in
     let nodes : a.nodes ≡ b.nodes = h.nodes ∙ ap nodes_of same.0 ∙ sym k.nodes in

@@ -14,12 +14,12 @@ use Rattle.leb_scan.specs.declared.item.Item.{Item}
 use Rattle.leb_scan.specs.declared.item.Item.TheVariants.{Node, Padding, Word}
 use Rattle.leb_scan.specs.declared.tail.Tail.{Tail}
 use Rattle.leb_scan.specs.declared.tail.Tail.TheVariants.{Clean, Torn}
-use Rattle.bud_log.specs.AfterCut.{IsHeldLog, IsOpenBehind, opened_at}
+use Rattle.bud_log.specs.AfterCut.{IsHeldLog, IsOpenBehind, log_opened_at}
 use Rattle.bud_log.specs.AfterCutLaws.{further_run}
-use Rattle.bud_log.specs.Log.{Log, IsLogLeb, next_leb, Run, end_of}
+use Rattle.bud_log.specs.Log.{Log, IsLogLeb, next_leb, Run, log_end_of}
 use Rattle.bud_log.specs.LogAt.{IsAt, steps_to}
 use Rattle.bud_log.specs.LogLaws.{next_in}
-use Rattle.bud_log.specs.LogText.{LogText, IsTextOf, begins_with, start_of, is_start_alone}
+use Rattle.bud_log.specs.LogText.{LogText, IsLogTextOf, begins_with, start_of, is_start_alone}
 use Rattle.bud_log.specs.Writing.{offs_behind}
 use Rattle.bud_log.specs.declared.log_end.LogEnd.{LogEnd}
 
@@ -27,16 +27,16 @@ use Rattle.bud_log.specs.declared.log_end.LogEnd.{LogEnd}
 record IsEndText (c : ℕ → List ℕ) (geo : RawGeometry) (ends : LogEnd) : Type 0 where
   text : LogText
   in_log : IsLogLeb geo ends.lnum
-  is_text : IsTextOf (c ends.lnum) ends.lnum text
+  is_text : IsLogTextOf (c ends.lnum) ends.lnum text
   ends_are : text.ends ≡ ends
 
-end_text : (c : ℕ → List ℕ) (geo : RawGeometry) (lnum : ℕ) (text : LogText) → IsLogLeb geo lnum → IsTextOf (c lnum) lnum text → IsEndText c geo text.ends
+end_text : (c : ℕ → List ℕ) (geo : RawGeometry) (lnum : ℕ) (text : LogText) → IsLogLeb geo lnum → IsLogTextOf (c lnum) lnum text → IsEndText c geo text.ends
 end_text c geo lnum text l is =
     let P : ℕ → Type 0 = λ n. IsLogLeb geo n in
-    let Q : ℕ → Type 0 = λ n. IsTextOf (c n) n text in
+    let Q : ℕ → Type 0 = λ n. IsLogTextOf (c n) n text in
     record { text = text; in_log = subst P (sym is.here) l; is_text = subst Q (sym is.here) is; ends_are = refl }
 
-run_end_text : (c : ℕ → List ℕ) (geo : RawGeometry) (from start lnum past : ℕ) (before : LogEnd) (texts : List LogText) → IsEndText c geo before → IsLogLeb geo lnum → Run c geo from start lnum texts past → IsEndText c geo (end_of before texts)
+run_end_text : (c : ℕ → List ℕ) (geo : RawGeometry) (from start lnum past : ℕ) (before : LogEnd) (texts : List LogText) → IsEndText c geo before → IsLogLeb geo lnum → Run c geo from start lnum texts past → IsEndText c geo (log_end_of before texts)
 run_end_text c geo from start lnum past before [] first l run = first
 run_end_text c geo from start lnum past before (text ∷ []) first l run =
     let P : Bool → Type 0 = λ b. IsEndText c geo (if b then before else text.ends) in
@@ -113,7 +113,7 @@ held_behind state geo from number log geometry f size long held =
 
 -- A log that is held is opened where it goes on, if nothing counts as written there.
 pub IsHeldLog-at : (state : VolumeState) (geo : RawGeometry) (from number : ℕ) (log : Log) → IsGeometry geo → IsLogLeb geo from → lpt_first geo ≤ state.leb_cnt → geo.leb_size ≡ state.leb_size → geo.min_io ≡ state.min_io
-    → ((k : ℕ) → IsLogLeb geo k → length (state.holds k) ≡ state.leb_size) → IsHeldLog state geo from number log → IsOpenBehind state geo log.ends → IsAt state (opened_at geo from log.ends)
+    → ((k : ℕ) → IsLogLeb geo k → length (state.holds k) ≡ state.leb_size) → IsHeldLog state geo from number log → IsOpenBehind state geo log.ends → IsAt state (log_opened_at geo from log.ends)
 IsHeldLog-at state geo from number log geometry f lebs size unit long held is_open =
     let behind = held_behind state geo from number log geometry f size long held in
     record {

@@ -15,39 +15,39 @@ use Rattle.leb_scan.specs.Gathered.{IsGathered, gathered_end}
 use Rattle.leb_scan.specs.declared.found.Found.{Found}
 use Rattle.leb_scan.specs.declared.item.Item.{Item}
 use Rattle.leb_scan.specs.declared.item.Item.TheVariants.{Node, Padding, Word}
-use Rattle.bud_log.specs.Buds.{named}
-use Rattle.bud_log.specs.LogText.{LogText, IsReferenceAt, Refer, IsTextOf, IsStartAt, begins_with, BeginsCommit, others, is_one_start, is_start_alone}
+use Rattle.bud_log.specs.Buds.{named_also}
+use Rattle.bud_log.specs.LogText.{LogText, IsReferenceAt, Refer, IsLogTextOf, IsStartAt, begins_with, BeginsCommit, others, is_one_start, is_start_alone}
 use Rattle.bud_log.specs.Seen.{HasBeginning, IsSeen, AreNamed}
 use Rattle.bud_log.specs.declared.head_at.HeadAt.{HeadAt}
 use Rattle.bud_log.specs.declared.seen.Seen.{Seen}
 use Rattle.bud_log.specs.Bytes.{bytes_drop, bytes_take}
 
 -- a node that stands at the place that it tells
-abbrev pub Stands : List ℕ → Found → Type 0
-Stands leb found = (node : AnyNode) × StandsAt leb found.offs found node
+abbrev pub StandsWhereTold : List ℕ → Found → Type 0
+StandsWhereTold leb found = (node : AnyNode) × StandsAt leb found.offs found node
 
-placed : (leb : List ℕ) (place : ℕ) (first found : Found) (node : AnyNode) → first ≡ found → StandsAt leb place first node → Stands leb found
+placed : (leb : List ℕ) (place : ℕ) (first found : Found) (node : AnyNode) → first ≡ found → StandsAt leb place first node → StandsWhereTold leb found
 placed leb place first found node same stands =
     let P : ℕ → Type 0 = λ p. StandsAt leb p first node in
-    let Q : Found → Type 0 = λ f. Stands leb f in
+    let Q : Found → Type 0 = λ f. StandsWhereTold leb f in
     subst Q same (node, subst P (sym stands.here) stands)
 
-pub head_of : {X : Type 0} (x y : X) (xs ys : List X) → x ∷ xs ≡ y ∷ ys → (x ≡ y) × (xs ≡ ys)
-head_of x y xs ys h = (cc, cc)
+pub equal_heads : {X : Type 0} (x y : X) (xs ys : List X) → x ∷ xs ≡ y ∷ ys → (x ≡ y) × (xs ≡ ys)
+equal_heads x y xs ys h = (cc, cc)
 
 -- the first of the nodes of items that stand there
-stands_first : (leb : List ℕ) (items : List Item) (place end : ℕ) (found : Found) (nodes : List Found) → Stand leb place items end → nodes_of items ≡ found ∷ nodes → Stands leb found
+stands_first : (leb : List ℕ) (items : List Item) (place end : ℕ) (found : Found) (nodes : List Found) → Stand leb place items end → nodes_of items ≡ found ∷ nodes → StandsWhereTold leb found
 stands_first leb [] place end found nodes h e = absurd cc
 stands_first leb (Word ∷ items) place end found nodes h e = stands_first leb items (behind leb place Word) end found nodes h.1 e
-stands_first leb (Node first ∷ items) place end found nodes h e = placed leb place first found h.0.node (head_of first found (nodes_of items) nodes e).0 h.0.stands
-stands_first leb (Padding first pad_len ∷ items) place end found nodes h e = placed leb place first found _ (head_of first found (nodes_of items) nodes e).0 h.0.stands
+stands_first leb (Node first ∷ items) place end found nodes h e = placed leb place first found h.0.node (equal_heads first found (nodes_of items) nodes e).0 h.0.stands
+stands_first leb (Padding first pad_len ∷ items) place end found nodes h e = placed leb place first found _ (equal_heads first found (nodes_of items) nodes e).0 h.0.stands
 
 -- the next node of a text stands there
-pub next_stands : (leb : List ℕ) (from to : ℕ) (found : Found) → IsNext leb from to found → Stands leb found
+pub next_stands : (leb : List ℕ) (from to : ℕ) (found : Found) → IsNext leb from to found → StandsWhereTold leb found
 next_stands leb from to found h = stands_first leb h.items from to found [] h.stand h.node
 
 -- a node of the type of references is a reference
-pub reference_there : (leb : List ℕ) (found : Found) → found.kind ≡ types.Reference → Stands leb found → (node : RefNode) × IsReferenceAt leb found node
+pub reference_there : (leb : List ℕ) (found : Found) → found.kind ≡ types.Reference → StandsWhereTold leb found → (node : RefNode) × IsReferenceAt leb found node
 reference_there leb found kind (leaf node, h) = let k = ap type_number (sym h.kind ∙ kind) in let l = leaf_low node in absurd (omega (arith, k, l))
 reference_there leb found kind (system (reference node), h) = (node, h.is)
 reference_there leb found kind (system (padding node), h) = let k = h.kind in absurd cc
@@ -58,7 +58,7 @@ reference_there leb found kind (system (commit_start node), h) = let k = h.kind 
 reference_there leb found kind (system (orphans node), h) = let k = h.kind in absurd cc
 
 -- and one of the type of commit starts a commit start
-commit_there : (leb : List ℕ) (found : Found) → Stands leb found → found.kind ≡ types.CommitStart → (node : CommitStart) × IsStartAt leb found node
+commit_there : (leb : List ℕ) (found : Found) → StandsWhereTold leb found → found.kind ≡ types.CommitStart → (node : CommitStart) × IsStartAt leb found node
 commit_there leb found (leaf node, h) kind = let k = ap type_number (sym h.kind ∙ kind) in let l = leaf_low node in absurd (omega (arith, k, l))
 commit_there leb found (system (commit_start node), h) kind = (node, h.is)
 commit_there leb found (system (padding node), h) kind = let k = h.kind in absurd cc
@@ -68,7 +68,7 @@ commit_there leb found (system (index node), h) kind = let k = h.kind in absurd 
 commit_there leb found (system (reference node), h) kind = let k = h.kind in absurd cc
 commit_there leb found (system (orphans node), h) kind = let k = h.kind in absurd cc
 
-begins_there : (leb : List ℕ) (nodes : List Found) → ((found : Found) (more : List Found) → nodes ≡ found ∷ more → Stands leb found) → HasBeginning leb (begins_with nodes)
+begins_there : (leb : List ℕ) (nodes : List Found) → ((found : Found) (more : List Found) → nodes ≡ found ∷ more → StandsWhereTold leb found) → HasBeginning leb (begins_with nodes)
 begins_there leb [] stands = tt
 begins_there leb (found ∷ more) stands =
     let P : Bool → Type 0 = λ b. HasBeginning leb (if b then Some found else None) in
@@ -76,7 +76,7 @@ begins_there leb (found ∷ more) stands =
     elim (cases_Bool (found.offs == 0)) [ inl first ↦ subst P (sym first) (there.1.room, commit_there leb found there) | inr behind ↦ subst P (sym behind) tt ]
 
 -- the node with which a text begins
-pub text_begins : (leb : List ℕ) (lnum : ℕ) (text : LogText) → IsTextOf leb lnum text → HasBeginning leb (begins_with text.nodes)
+pub text_begins : (leb : List ℕ) (lnum : ℕ) (text : LogText) → IsLogTextOf leb lnum text → HasBeginning leb (begins_with text.nodes)
 text_begins leb lnum text h =
     let P : List Found → Type 0 = λ nodes. HasBeginning leb (begins_with nodes) in
     subst P (sym h.nodes) (begins_there leb (nodes_of h.items) (λ found more e. stands_first leb h.items 0 text.ends.offs found more h.is_text.stand e))
@@ -91,18 +91,18 @@ pub some_commit : (leb : List ℕ) (begins : Option Found) → HasBeginning leb 
 some_commit leb None h = (None, refl)
 some_commit leb (Some found) h = elim (cases_type found.kind types.CommitStart) [ inl kind ↦ let node = h.1 kind in (Some node.0.cmt_no, inr (kind, node.0, node.1, refl)) | inr other ↦ (None, inl (other, refl)) ]
 
-pub room_of : (leb : List ℕ) (found : Found) → Stands leb found → found.offs + found.len ≤ length leb
-room_of leb found h = h.1.room
+pub padded_room_of : (leb : List ℕ) (found : Found) → StandsWhereTold leb found → found.offs + found.len ≤ length leb
+padded_room_of leb found h = h.1.room
 
 -- bytes are at most one system node
-abbrev pub OneNode : Type 0
-OneNode = (bytes : List ℕ) (s1 g1 s2 g2 : ℕ) (n1 n2 : SystemNode) → IsBytes bytes → IsSystemNode bytes s1 g1 n1 → IsSystemNode bytes s2 g2 n2 → (s1 ≡ s2) × (g1 ≡ g2) × (n1 ≡ n2)
+abbrev pub OneSystemNode : Type 0
+OneSystemNode = (bytes : List ℕ) (s1 g1 s2 g2 : ℕ) (n1 n2 : SystemNode) → IsBytes bytes → IsSystemNode bytes s1 g1 n1 → IsSystemNode bytes s2 g2 n2 → (s1 ≡ s2) × (g1 ≡ g2) × (n1 ≡ n2)
 
 pub reference_same : (m n : RefNode) → reference m ≡ reference n → m ≡ n
 reference_same m n h = cc
 
 -- and so at most one reference
-pub only_reference : OneNode → (bytes : List ℕ) → IsBytes bytes → (o : Option RefNode) → IfSome o (λ (m : RefNode). (sqnum : ℕ) × (group : ℕ) × IsRef bytes sqnum group m)
+pub only_reference : OneSystemNode → (bytes : List ℕ) → IsBytes bytes → (o : Option RefNode) → IfSome o (λ (m : RefNode). (sqnum : ℕ) × (group : ℕ) × IsRef bytes sqnum group m)
     → IfSome o (λ (m : RefNode). (sqnum group : ℕ) (node : RefNode) → IsRef bytes sqnum group node → m ≡ node)
 only_reference one bytes fits None read = tt
 only_reference one bytes fits (Some m) read = λ sqnum group node is. reference_same m node (one bytes read.0 read.1 sqnum group (reference m) (reference node) fits read.2 is).2
@@ -111,10 +111,10 @@ commit_same : (m n : CommitStart) → commit_start m ≡ commit_start n → m �
 commit_same m n h = cc
 
 -- bytes are at most one commit start, and a LEB begins with the start of one commit at most
-pub only_commit : OneNode → (bytes : List ℕ) → IsBytes bytes → (sqnum group s g : ℕ) (m n : CommitStart) → IsCommitStart bytes sqnum group m → IsCommitStart bytes s g n → m ≡ n
+pub only_commit : OneSystemNode → (bytes : List ℕ) → IsBytes bytes → (sqnum group s g : ℕ) (m n : CommitStart) → IsCommitStart bytes sqnum group m → IsCommitStart bytes s g n → m ≡ n
 only_commit one bytes fits sqnum group s g m n is also = commit_same m n (one bytes sqnum group s g (commit_start m) (commit_start n) fits is also).2
 
-pub one_commit : OneNode → (leb : List ℕ) → IsBytes leb → (begins : Option Found) (a b : Option ℕ) → BeginsCommit leb begins a → BeginsCommit leb begins b → a ≡ b
+pub one_commit : OneSystemNode → (leb : List ℕ) → IsBytes leb → (begins : Option Found) (a b : Option ℕ) → BeginsCommit leb begins a → BeginsCommit leb begins b → a ≡ b
 one_commit one leb fits None a b h k = h ∙ sym k
 one_commit one leb fits (Some found) a b (inl (other, h)) (inl (again, k)) = h ∙ sym k
 one_commit one leb fits (Some found) a b (inl (other, h)) (inr (kind, n, also, k)) = absurd (other kind)
@@ -134,7 +134,7 @@ refer_then leb (found ∷ a) b r s (inr (kind, node, more, is, e, h)) k = inr (k
 pub record IsNamedSoFar (leb : List ℕ) (nodes : List Found) (old new : List HeadAt) : Type 0 where
   pub references : List RefNode
   pub refer : Refer leb nodes references
-  pub named_are : new ≡ fold named old references
+  pub named_are : new ≡ fold named_also old references
 
 pub named_none : (leb : List ℕ) (old : List HeadAt) → IsNamedSoFar leb [] old old
 named_none leb old = record { references = []; refer = refl; named_are = refl }
@@ -145,15 +145,15 @@ named_other leb nodes old new found other h =
     record {
       references = h.references ++ [];
       refer = refer_then leb nodes (found ∷ []) h.references [] h.refer (inl (other, refl));
-      named_are = h.named_are ∙ ap (fold named old) (sym (append-nil h.references));
+      named_are = h.named_are ∙ ap (fold named_also old) (sym (append-nil h.references));
     }
 
-pub named_more : (leb : List ℕ) (nodes : List Found) (old now new : List HeadAt) (found : Found) (node : RefNode) → found.kind ≡ types.Reference → IsReferenceAt leb found node → IsNamedSoFar leb nodes old now → new ≡ named now node
+pub named_more : (leb : List ℕ) (nodes : List Found) (old now new : List HeadAt) (found : Found) (node : RefNode) → found.kind ≡ types.Reference → IsReferenceAt leb found node → IsNamedSoFar leb nodes old now → new ≡ named_also now node
     → IsNamedSoFar leb (nodes ++ found ∷ []) old new
 named_more leb nodes old now new found node kind is h e = record {
   references = h.references ++ node ∷ [];
   refer = refer_then leb nodes (found ∷ []) h.references (node ∷ []) h.refer (inr (kind, node, [], is, refl, refl));
-  named_are = e ∙ ap (λ (x : List HeadAt). named x node) h.named_are ∙ sym (fold-append named old h.references (node ∷ []));
+  named_are = e ∙ ap (λ (x : List HeadAt). named_also x node) h.named_are ∙ sym (fold-append named_also old h.references (node ∷ []));
 }
 
 -- at the end of the text
@@ -163,7 +163,7 @@ named_all leb place end nodes old new gathered h last =
     let P : List Found → Type 0 = λ n. Refer leb n h.references in
     record { items = text.0; offs = end; tail = tail_at leb end; is_text = text.1; references = h.references; refer = subst P text.2 h.refer; named_are = h.named_are }
 
-more_references : (leb : List ℕ) (found : Found) (nodes : List Found) → Stands leb found → (references : List RefNode) × Refer leb nodes references → (references : List RefNode) × Refer leb (found ∷ nodes) references
+more_references : (leb : List ℕ) (found : Found) (nodes : List Found) → StandsWhereTold leb found → (references : List RefNode) × Refer leb nodes references → (references : List RefNode) × Refer leb (found ∷ nodes) references
 more_references leb found nodes stands (rest, h) = elim (cases_type found.kind types.Reference) [
   | inl kind ↦ let node = reference_there leb found kind stands in (node.0 ∷ rest, inr (kind, node.0, rest, node.1, refl, h))
   | inr other ↦ (rest, inl (other, h))
@@ -218,7 +218,7 @@ pub start_is_there : (bytes : List ℕ) (sqnum group : ℕ) (node : CommitStart)
 start_is_there bytes sqnum group node None is none = absurd (none sqnum group node is)
 start_is_there bytes sqnum group node (Some other) is none = refl
 
-pub only_start : OneNode → (bytes : List ℕ) → IsBytes bytes → (o : Option CommitStart) → IfSome o (λ (m : CommitStart). (sqnum : ℕ) × (group : ℕ) × IsCommitStart bytes sqnum group m)
+pub only_start : OneSystemNode → (bytes : List ℕ) → IsBytes bytes → (o : Option CommitStart) → IfSome o (λ (m : CommitStart). (sqnum : ℕ) × (group : ℕ) × IsCommitStart bytes sqnum group m)
     → IfSome o (λ (m : CommitStart). (sqnum group : ℕ) (node : CommitStart) → IsCommitStart bytes sqnum group node → m ≡ node)
 only_start one bytes fits None read = tt
 only_start one bytes fits (Some m) read = λ sqnum group node is. only_commit one bytes fits read.0 read.1 sqnum group m node read.2 is

@@ -12,9 +12,9 @@ use Rattle.leb_scan.specs.Text.{IsText, nodes_of}
 use Rattle.leb_scan.specs.declared.found.Found.{Found}
 use Rattle.leb_scan.specs.declared.item.Item.{Item}
 use Rattle.leb_scan.specs.declared.tail.Tail.{Tail}
-use Rattle.bud_log.specs.Buds.{named}
-use Rattle.bud_log.specs.Log.{IsLogLeb, next_leb, Run, Stops, AreFurther, references_of, greatest_of, end_of, IsLog}
-use Rattle.bud_log.specs.LogText.{LogText, Refer, IsTextOf, begins_with, start_of, BeginsCommit, is_later, greatest_found, is_start_alone}
+use Rattle.bud_log.specs.Buds.{named_also}
+use Rattle.bud_log.specs.Log.{IsLogLeb, next_leb, Run, Stops, AreFurther, references_of, greatest_of, log_end_of, IsLog}
+use Rattle.bud_log.specs.LogText.{LogText, Refer, IsLogTextOf, begins_with, start_of, BeginsCommit, is_later, greatest_found, is_start_alone}
 use Rattle.bud_log.specs.Seen.{IsSeen, AreNamed, IsTaken, IsPassed, IsReadOn}
 use Rattle.bud_log.specs.declared.head_at.HeadAt.{HeadAt}
 use Rattle.bud_log.specs.declared.log_end.LogEnd.{LogEnd}
@@ -23,8 +23,8 @@ use Rattle.bud_log.specs.declared.seen.Seen.{Seen}
 use Rattle.bud_log.specs.References.{some_references}
 
 -- bytes have at most one text
-abbrev pub OneText : Type 0
-OneText = (leb : List ℕ) (from end1 end2 : ℕ) (items1 items2 : List Item) (tail1 tail2 : Tail) → IsBytes leb
+abbrev pub OneLebText : Type 0
+OneLebText = (leb : List ℕ) (from end1 end2 : ℕ) (items1 items2 : List Item) (tail1 tail2 : Tail) → IsBytes leb
     → IsText leb from items1 end1 tail1 → IsText leb from items2 end2 tail2 → (items1 ≡ items2) × (end1 ≡ end2) × (tail1 ≡ tail2)
 
 pub ends_same : (l1 l2 o1 o2 : ℕ) (t1 t2 : Tail) → l1 ≡ l2 → o1 ≡ o2 → t1 ≡ t2
@@ -34,8 +34,8 @@ pub ends_same : (l1 l2 o1 o2 : ℕ) (t1 t2 : Tail) → l1 ≡ l2 → o1 ≡ o2 �
 ends_same l1 l2 o1 o2 t1 t2 l o t = rw (l, o, t) refl
 
 -- how many log LEBs lie before the first again
-abbrev pub left_of : RawGeometry → ℕ → ℕ → ℕ
-left_of geo from lnum = if nat_lt from lnum then (from + lpt_first geo) - (lnum + 3) else from - lnum
+abbrev pub lebs_left_of : RawGeometry → ℕ → ℕ → ℕ
+lebs_left_of geo from lnum = if nat_lt from lnum then (from + lpt_first geo) - (lnum + 3) else from - lnum
 
 -- one LEB that isn't the first is before it or behind it
 below_or_above : (lnum from : ℕ) → lnum ≢ from → (lnum < from) ⊎ (from < lnum)
@@ -44,10 +44,10 @@ below_or_above lnum from ne = elim (cases_lt lnum from) [
   | inr above ↦ elim (cases_lt from lnum) [ inl more ↦ inr more | inr other ↦ absurd (ne (omega (arith, above, other))) ]
 ]
 
-pub left_below : (geo : RawGeometry) (from lnum : ℕ) → lnum ≤ from → left_of geo from lnum ≡ from - lnum
+pub left_below : (geo : RawGeometry) (from lnum : ℕ) → lnum ≤ from → lebs_left_of geo from lnum ≡ from - lnum
 left_below geo from lnum h = rw (le-ltb from lnum h) refl
 
-pub left_above : (geo : RawGeometry) (from lnum : ℕ) → from < lnum → left_of geo from lnum ≡ (from + lpt_first geo) - (lnum + 3)
+pub left_above : (geo : RawGeometry) (from lnum : ℕ) → from < lnum → lebs_left_of geo from lnum ≡ (from + lpt_first geo) - (lnum + 3)
 left_above geo from lnum h = rw (lt-ltb from lnum h) refl
 
 pub next_here : (geo : RawGeometry) (lnum : ℕ) → lnum + 1 < lpt_first geo → next_leb geo lnum ≡ lnum + 1
@@ -57,7 +57,7 @@ pub next_round : (geo : RawGeometry) (lnum : ℕ) → lpt_first geo ≤ lnum + 1
 next_round geo lnum h = rw (le-ltb (lnum + 1) (lpt_first geo) h) refl
 
 -- one step round the ring
-pub fewer_left : (geo : RawGeometry) (from lnum : ℕ) → IsLogLeb geo from → IsLogLeb geo lnum → lnum ≢ from → left_of geo from (next_leb geo lnum) < left_of geo from lnum
+pub fewer_left : (geo : RawGeometry) (from lnum : ℕ) → IsLogLeb geo from → IsLogLeb geo lnum → lnum ≢ from → lebs_left_of geo from (next_leb geo lnum) < lebs_left_of geo from lnum
 fewer_left geo from lnum f l ne =
     let f1 = f.low in
     let f2 = f.high in
@@ -79,9 +79,9 @@ fewer_left geo from lnum f l ne =
 
 -- one text more
 pub run_then : (contents : ℕ → List ℕ) (geo : RawGeometry) (from number lnum past : ℕ) (texts : List LogText) (text : LogText) → Run contents geo from number lnum texts past → past ≢ from
-    → IsTextOf (contents past) past text → IsTrue (is_later number (begins_with text.nodes)) → Run contents geo from number lnum (texts ++ text ∷ []) (next_leb geo past)
+    → IsLogTextOf (contents past) past text → IsTrue (is_later number (begins_with text.nodes)) → Run contents geo from number lnum (texts ++ text ∷ []) (next_leb geo past)
 run_then contents geo from number lnum past [] text run ne is later =
-    let P : ℕ → Type 0 = λ n. (n ≢ from) × IsTextOf (contents n) n text × IsTrue (is_later number (begins_with text.nodes)) × (next_leb geo n ≡ next_leb geo past) in
+    let P : ℕ → Type 0 = λ n. (n ≢ from) × IsLogTextOf (contents n) n text × IsTrue (is_later number (begins_with text.nodes)) × (next_leb geo n ≡ next_leb geo past) in
     subst P (sym run) (ne, is, later, refl)
 run_then contents geo from number lnum past (first ∷ texts) text run ne is later = (run.0, run.1, run.2, run_then contents geo from number (next_leb geo lnum) past texts text run.3 ne is later)
 
@@ -90,15 +90,15 @@ references_then [] text = append-nil text.references
 references_then (first ∷ texts) text = ap (λ (r : List RefNode). first.references ++ r) (references_then texts text) ∙ sym (append_assoc first.references (references_of texts) text.references)
 
 -- where the last text ends
-abbrev pub last_of : LogEnd → List LogText → LogEnd
-last_of first [] = first
-last_of first (text ∷ texts) = last_of text.ends texts
+abbrev pub last_end_of : LogEnd → List LogText → LogEnd
+last_end_of first [] = first
+last_end_of first (text ∷ texts) = last_end_of text.ends texts
 
-pub last_then : (first : LogEnd) (texts : List LogText) (text : LogText) → last_of first (texts ++ text ∷ []) ≡ text.ends
+pub last_then : (first : LogEnd) (texts : List LogText) (text : LogText) → last_end_of first (texts ++ text ∷ []) ≡ text.ends
 last_then first [] text = refl
 last_then first (other ∷ texts) text = last_then other.ends texts text
 
-pub end_then : (first : LogEnd) (texts : List LogText) (text : LogText) → end_of first (texts ++ text ∷ []) ≡ (if is_start_alone text.nodes then last_of first texts else text.ends)
+pub end_then : (first : LogEnd) (texts : List LogText) (text : LogText) → log_end_of first (texts ++ text ∷ []) ≡ (if is_start_alone text.nodes then last_end_of first texts else text.ends)
 end_then first [] text = refl
 end_then first (other ∷ []) text = refl
 end_then first (other ∷ (another ∷ texts)) text = end_then other.ends (another ∷ texts) text
@@ -107,10 +107,10 @@ end_then first (other ∷ (another ∷ texts)) text = end_then other.ends (anoth
 pub record IsReadSoFar (contents : ℕ → List ℕ) (geo : RawGeometry) (from number : ℕ) (first : ReadTo) (old new : List HeadAt) (lnum : ℕ) (last : LogEnd) (read : ReadTo) : Type 0 where
   pub more : List LogText
   pub run : Run contents geo from number (next_leb geo from) more lnum
-  pub named_are : new ≡ fold named old (references_of more)
+  pub named_are : new ≡ fold named_also old (references_of more)
   pub sqnum_is : read.sqnum ≡ greatest_of first.sqnum more
-  pub last_is : last ≡ last_of first.end more
-  pub end_is : read.end ≡ end_of first.end more
+  pub last_is : last ≡ last_end_of first.end more
+  pub end_is : read.end ≡ log_end_of first.end more
 
 pub so_far_first : (contents : ℕ → List ℕ) (geo : RawGeometry) (from number lnum : ℕ) (first : ReadTo) (old : List HeadAt) → lnum ≡ next_leb geo from → IsReadSoFar contents geo from number first old old lnum first.end first
 so_far_first contents geo from number lnum first old h = record { more = []; run = sym h; named_are = refl; sqnum_is = refl; last_is = refl; end_is = refl }
@@ -134,7 +134,7 @@ so_far_next contents geo from number lnum next first old now new last here read 
     record {
       more = h.more ++ text ∷ [];
       run = subst P (sym next_is) (run_then contents geo from number (next_leb geo from) lnum h.more text h.run ne taken.is_text is_it);
-      named_are = taken.named_are ∙ ap (λ (x : List HeadAt). fold named x text.references) h.named_are ∙ sym (fold-append named old (references_of h.more) text.references) ∙ ap (fold named old) (sym (references_then h.more text));
+      named_are = taken.named_are ∙ ap (λ (x : List HeadAt). fold named_also x text.references) h.named_are ∙ sym (fold-append named_also old (references_of h.more) text.references) ∙ ap (fold named_also old) (sym (references_then h.more text));
       sqnum_is = sqnum_is ∙ ap (λ (n : ℕ). max n seen.sqnum) h.sqnum_is ∙ ap (max (greatest_of first.sqnum h.more)) taken.sqnum
           ∙ sym (fold-append (λ n (t : LogText). max n (greatest_found t.nodes)) first.sqnum h.more (text ∷ []));
       last_is = here_is ∙ sym (last_then first.end h.more text);
@@ -160,8 +160,8 @@ read_passed contents geo from number lnum first old now new last read h passed e
 }
 
 -- one text was seen and named
-pub taken_of : OneText → (leb : List ℕ) (lnum : ℕ) (old new : List HeadAt) (seen : Seen) → IsBytes leb → IsSeen leb seen → AreNamed leb old new → IsTaken leb lnum old new seen
-taken_of one leb lnum old new seen fits s n =
+pub text_taken_of : OneLebText → (leb : List ℕ) (lnum : ℕ) (old new : List HeadAt) (seen : Seen) → IsBytes leb → IsSeen leb seen → AreNamed leb old new → IsTaken leb lnum old new seen
+text_taken_of one leb lnum old new seen fits s n =
     let same = one leb 0 n.offs seen.offs n.items s.items n.tail seen.tail fits n.is_text s.is_text in
     let P : List Item → Type 0 = λ items. Refer leb (nodes_of items) n.references in
     record {
@@ -187,7 +187,7 @@ log_alone contents geo from commit seen new end begins h none e1 e2 e3 =
       is_first = h.is_text;
       commit = subst Q h.begins begins;
       are_further = subst P (sym (ap start_of (sym h.begins) ∙ none)) refl;
-      buds = h.named_are ∙ ap (fold named []) (sym (append-nil h.text.references));
+      buds = h.named_are ∙ ap (fold named_also []) (sym (append-nil h.text.references));
       sqnum = h.sqnum ∙ sym (zero-max (greatest_found h.text.nodes));
       ends = taken_ends (contents from) from [] new seen end h e1 e2 e3;
     }
@@ -203,9 +203,9 @@ log_further contents geo from number commit seen now new first read begins h som
       is_first = h.is_text;
       commit = subst Q h.begins begins;
       are_further = subst P (sym (ap start_of (sym h.begins) ∙ some)) (k.past, k.run, k.stops);
-      buds = k.named_are ∙ ap (λ (x : List HeadAt). fold named x (references_of k.more)) h.named_are ∙ sym (fold-append named [] h.text.references (references_of k.more));
+      buds = k.named_are ∙ ap (λ (x : List HeadAt). fold named_also x (references_of k.more)) h.named_are ∙ sym (fold-append named_also [] h.text.references (references_of k.more));
       sqnum = k.sqnum_is ∙ ap (λ (n : ℕ). greatest_of n k.more) (e4 ∙ h.sqnum ∙ sym (zero-max (greatest_found h.text.nodes)));
-      ends = k.end_is ∙ ap (λ (e : LogEnd). end_of e k.more) (taken_ends (contents from) from [] now seen first.end h e1 e2 e3);
+      ends = k.end_is ∙ ap (λ (e : LogEnd). log_end_of e k.more) (taken_ends (contents from) from [] now seen first.end h e1 e2 e3);
     }
 
 -- one text was seen, and isn't read
@@ -222,12 +222,12 @@ passed_of leb lnum number seen later s e not_later =
 run_moved : (c d : ℕ → List ℕ) (geo : RawGeometry) (from number lnum past : ℕ) (texts : List LogText) → ((k : ℕ) → c k ≡ d k) → Run c geo from number lnum texts past → Run d geo from number lnum texts past
 run_moved c d geo from number lnum past [] same h = h
 run_moved c d geo from number lnum past (text ∷ texts) same h =
-    let P : List ℕ → Type 0 = λ leb. IsTextOf leb lnum text in
+    let P : List ℕ → Type 0 = λ leb. IsLogTextOf leb lnum text in
     (h.0, subst P (same lnum) h.1, h.2, run_moved c d geo from number (next_leb geo lnum) past texts same h.3)
 
 stops_moved : (c d : ℕ → List ℕ) (from number past : ℕ) → ((k : ℕ) → c k ≡ d k) → Stops c from number past → Stops d from number past
 stops_moved c d from number past same (inl e) = inl e
-stops_moved c d from number past same (inr (text, is, not_later)) = let P : List ℕ → Type 0 = λ leb. IsTextOf leb past text in inr (text, subst P (same past) is, not_later)
+stops_moved c d from number past same (inr (text, is, not_later)) = let P : List ℕ → Type 0 = λ leb. IsLogTextOf leb past text in inr (text, subst P (same past) is, not_later)
 
 pub read_moved : (c d : ℕ → List ℕ) (geo : RawGeometry) (from number : ℕ) (first : ReadTo) (old new : List HeadAt) (read : ReadTo) → ((k : ℕ) → c k ≡ d k) → IsReadOn c geo from number first old new read → IsReadOn d geo from number first old new read
 read_moved c d geo from number first old new read same h = record {

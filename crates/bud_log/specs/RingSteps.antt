@@ -4,11 +4,11 @@ use Rattle.std.specs.Prelude.{◌≢◌, if◌then◌else◌}
 use Rattle.std.proofs.lemmas.Bool.{cases_Bool, cases_lt, lt-ltb, le-ltb}
 use Rattle.ubifs_base.specs.Areas.{lpt_first}
 use Rattle.ubifs_base.specs.declared.raw_geometry.RawGeometry.{RawGeometry}
-use Rattle.bud_log.specs.Log.{IsLogLeb, next_leb, Run, end_of}
+use Rattle.bud_log.specs.Log.{IsLogLeb, next_leb, Run, log_end_of}
 use Rattle.bud_log.specs.LogAt.{steps_to}
 use Rattle.bud_log.specs.LogLaws.{next_in}
 use Rattle.bud_log.specs.LogText.{LogText, is_start_alone}
-use Rattle.bud_log.specs.RingRuns.{next_here, next_round, last_of, end_then}
+use Rattle.bud_log.specs.RingRuns.{next_here, next_round, last_end_of, end_then}
 use Rattle.bud_log.specs.Writing.{last_end}
 use Rattle.bud_log.specs.declared.log_end.LogEnd.{LogEnd}
 
@@ -46,7 +46,7 @@ steps_more geo from lnum f l ne =
 
 -- a log ends no further round the ring than its last text
 pub end_near : (c : ℕ → List ℕ) (geo : RawGeometry) (from start lnum past : ℕ) (before : LogEnd) (texts : List LogText) → IsLogLeb geo from → IsLogLeb geo before.lnum → lnum ≡ next_leb geo before.lnum → Run c geo from start lnum texts past
-    → steps_to geo from (end_of before texts).lnum ≤ steps_to geo from (last_end before texts).lnum
+    → steps_to geo from (log_end_of before texts).lnum ≤ steps_to geo from (last_end before texts).lnum
 end_near c geo from start lnum past before [] f l e run = omega arith
 end_near c geo from start lnum past before (text ∷ []) f l e run =
     let there : text.ends.lnum ≡ next_leb geo before.lnum = run.1.here ∙ e in
@@ -59,12 +59,12 @@ end_near c geo from start lnum past before (text ∷ (other ∷ texts)) f l e ru
     let l2 : IsLogLeb geo text.ends.lnum = subst P (sym (run.1.here ∙ e)) (next_in geo before.lnum l) in
     end_near c geo from start (next_leb geo lnum) past text.ends (other ∷ texts) f l2 (ap (next_leb geo) (sym run.1.here)) run.3
 
-last_same : (before : LogEnd) (texts : List LogText) → last_of before texts ≡ last_end before texts
+last_same : (before : LogEnd) (texts : List LogText) → last_end_of before texts ≡ last_end before texts
 last_same before [] = refl
 last_same before (text ∷ texts) = last_same text.ends texts
 
 -- behind a last commit start alone it ends where the texts before do
-pub end_alone : (before : LogEnd) (texts : List LogText) (text : LogText) → is_start_alone text.nodes ≡ true → end_of before (texts ++ text ∷ []) ≡ last_end before texts
+pub end_alone : (before : LogEnd) (texts : List LogText) (text : LogText) → is_start_alone text.nodes ≡ true → log_end_of before (texts ++ text ∷ []) ≡ last_end before texts
 end_alone before texts text alone =
-    let P : Bool → Type 0 = λ b. (if b then last_of before texts else text.ends) ≡ last_of before texts in
+    let P : Bool → Type 0 = λ b. (if b then last_end_of before texts else text.ends) ≡ last_end_of before texts in
     end_then before texts text ∙ subst P (sym alone) refl ∙ last_same before texts

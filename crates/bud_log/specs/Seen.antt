@@ -8,9 +8,9 @@ use Rattle.leb_scan.specs.declared.found.Found.{Found}
 use Rattle.leb_scan.specs.declared.item.Item.{Item}
 use Rattle.leb_scan.specs.declared.tail.Tail.{Tail}
 use Rattle.ubifs_base.specs.declared.raw_geometry.RawGeometry.{RawGeometry}
-use Rattle.bud_log.specs.Buds.{named}
-use Rattle.bud_log.specs.Log.{next_leb, Run, Stops, references_of, greatest_of, end_of}
-use Rattle.bud_log.specs.LogText.{LogText, IsStartAt, Refer, IsTextOf, begins_with, is_later, greatest_found, is_start_alone}
+use Rattle.bud_log.specs.Buds.{named_also}
+use Rattle.bud_log.specs.Log.{next_leb, Run, Stops, references_of, greatest_of, log_end_of}
+use Rattle.bud_log.specs.LogText.{LogText, IsStartAt, Refer, IsLogTextOf, begins_with, is_later, greatest_found, is_start_alone}
 use Rattle.bud_log.specs.declared.head_at.HeadAt.{HeadAt}
 use Rattle.bud_log.specs.declared.read_to.ReadTo.{ReadTo}
 use Rattle.bud_log.specs.declared.seen.Seen.{Seen}
@@ -41,23 +41,23 @@ pub record AreNamed (leb : List ℕ) (old new : List HeadAt) : Type 0 where
   pub is_text : IsText leb 0 items offs tail
   pub references : List RefNode
   pub refer : Refer leb (nodes_of items) references
-  pub named_are : new ≡ fold named old references
+  pub named_are : new ≡ fold named_also old references
 
 -- both of one text
 pub record IsTaken (leb : List ℕ) (lnum : ℕ) (old new : List HeadAt) (seen : Seen) : Type 0 where
   pub text : LogText
-  pub is_text : IsTextOf leb lnum text
+  pub is_text : IsLogTextOf leb lnum text
   pub begins : seen.begins ≡ begins_with text.nodes
   pub alone : seen.alone ≡ is_start_alone text.nodes
   pub sqnum : seen.sqnum ≡ greatest_found text.nodes
   pub offs : seen.offs ≡ text.ends.offs
   pub tail : seen.tail ≡ text.ends.tail
-  pub named_are : new ≡ fold named old text.references
+  pub named_are : new ≡ fold named_also old text.references
 
 -- a LEB that doesn't begin with a greater number
 pub record IsPassed (leb : List ℕ) (lnum number : ℕ) : Type 0 where
   pub text : LogText
-  pub is_text : IsTextOf leb lnum text
+  pub is_text : IsLogTextOf leb lnum text
   pub not_later : IsFalse (is_later number (begins_with text.nodes))
 
 -- what was read behind the first LEB, which was read up to there
@@ -66,6 +66,6 @@ pub record IsReadOn (contents : ℕ → List ℕ) (geo : RawGeometry) (from numb
   pub past : ℕ
   pub run : Run contents geo from number (next_leb geo from) more past
   pub stops : Stops contents from number past
-  pub named_are : new ≡ fold named old (references_of more)
+  pub named_are : new ≡ fold named_also old (references_of more)
   pub sqnum_is : read.sqnum ≡ greatest_of first.sqnum more
-  pub end_is : read.end ≡ end_of first.end more
+  pub end_is : read.end ≡ log_end_of first.end more

@@ -14,8 +14,8 @@ use Rattle.leb_scan.specs.declared.tail.Tail.{Tail}
 use Rattle.leb_scan.specs.declared.tail.Tail.TheVariants.{Clean, Torn}
 use Rattle.bud_log.specs.Buds.{buds_of}
 use Rattle.bud_log.specs.Log.{IsLogLeb, next_leb, Run, references_of}
-use Rattle.bud_log.specs.LogAt.{room_of}
-use Rattle.bud_log.specs.LogText.{LogText, IsTextOf, begins_with, start_of, is_later, is_start_alone}
+use Rattle.bud_log.specs.LogAt.{padded_room_of}
+use Rattle.bud_log.specs.LogText.{LogText, IsLogTextOf, begins_with, start_of, is_later, is_start_alone}
 use Rattle.bud_log.specs.declared.head_at.HeadAt.{HeadAt}
 use Rattle.bud_log.specs.declared.log_end.LogEnd.{LogEnd}
 
@@ -35,7 +35,7 @@ references_in [] = []
 references_in (node ∷ nodes) = reference_in node ++ references_in nodes
 
 -- a node whose one spelling is its own, of whole words, and no padding
-pub record IsSpelled (number : ℕ) (node : SystemNode) : Type 0 where
+pub record IsNodeSpelled (number : ℕ) (node : SystemNode) : Type 0 where
   pub bytes : IsBytes (written number 0 node)
   pub is : IsSystemNode (written number 0 node) number 0 node
   pub long : 0 < length (written number 0 node)
@@ -45,7 +45,7 @@ pub record IsSpelled (number : ℕ) (node : SystemNode) : Type 0 where
 -- nodes with the numbers behind this one
 abbrev pub AreSpelled : ℕ → List SystemNode → Type 0
 AreSpelled number [] = ⊤
-AreSpelled number (node ∷ nodes) = IsSpelled (number + 1) node × AreSpelled (number + 1) nodes
+AreSpelled number (node ∷ nodes) = IsNodeSpelled (number + 1) node × AreSpelled (number + 1) nodes
 
 -- nodes in their one spelling, one behind another, with the numbers behind this one
 abbrev pub laid : ℕ → List SystemNode → List ℕ
@@ -67,12 +67,12 @@ IsAmong lnum (text ∷ texts) = (lnum ≡ text.ends.lnum) ⊎ IsAmong lnum texts
 
 -- the LEB doesn't begin with a greater number
 abbrev pub IsOlder : ℕ → ℕ → List ℕ → Type 0
-IsOlder number lnum leb = (text : LogText) × IsTextOf leb lnum text × IsFalse (is_later number (begins_with text.nodes))
+IsOlder number lnum leb = (text : LogText) × IsLogTextOf leb lnum text × IsFalse (is_later number (begins_with text.nodes))
 
 -- A LEB that isn't read, or says nothing: it doesn't begin with a number greater than the first, or it is the one behind the last
 -- that is read, and has the start of an unfinished commit alone, whose number isn't above the last one.
 abbrev pub IsPassedOver : ℕ → ℕ → ℕ → ℕ → List ℕ → Type 0
-IsPassedOver start number past lnum leb = IsOlder start lnum leb ⊎ ((lnum ≡ past) × (text : LogText) × IsTextOf leb lnum text × IsTrue (is_start_alone text.nodes) × IsFalse (is_later number (begins_with text.nodes)))
+IsPassedOver start number past lnum leb = IsOlder start lnum leb ⊎ ((lnum ≡ past) × (text : LogText) × IsLogTextOf leb lnum text × IsTrue (is_start_alone text.nodes) × IsFalse (is_later number (begins_with text.nodes)))
 
 -- whatever a cut leaves of the log's LEBs but this one, none begins with a number above this
 abbrev pub AreOthersOlder : VolumeState → RawGeometry → ℕ → ℕ → Type 0
@@ -90,7 +90,7 @@ last_end first (text ∷ texts) = last_end text.ends texts
 
 -- these texts are read, from a commit start of this number on
 pub record IsChain (contents : ℕ → List ℕ) (geo : RawGeometry) (from start : ℕ) (first : LogText) (more : List LogText) (past : ℕ) : Type 0 where
-  pub is_first : IsTextOf (contents from) from first
+  pub is_first : IsLogTextOf (contents from) from first
   pub starts : start_of (begins_with first.nodes) ≡ Some start
   pub run : Run contents geo from start (next_leb geo from) more past
 
@@ -107,11 +107,11 @@ offs_behind geo ends = offs_if geo ends.offs ends.tail
 abbrev pub GoesOn : RawGeometry → LogEnd → ℕ → ℕ → Type 0
 GoesOn geo last lnum offs =
     (last ≡ record { lnum = lnum; offs = offs; tail = Clean })
-    ⊎ ((last.lnum ≡ lnum) × (offs_behind geo last ≡ geo.leb_size) × IsFalse (nat_le (offs + room_of geo.min_io 64) geo.leb_size))
+    ⊎ ((last.lnum ≡ lnum) × (offs_behind geo last ≡ geo.leb_size) × IsFalse (nat_le (offs + padded_room_of geo.min_io 64) geo.leb_size))
 
 -- The volume holds a log of these buds, which goes on here, and is ready for its next node: what is read of it a cut leaves as it
 -- is, and whatever a cut leaves of the ring's other LEBs is passed over. No LEB begins with a number above this one.
-pub record IsReady (state : VolumeState) (geo : RawGeometry) (from lnum offs number : ℕ) (buds : List HeadAt) : Type 0 where
+pub record IsLogReady (state : VolumeState) (geo : RawGeometry) (from lnum offs number : ℕ) (buds : List HeadAt) : Type 0 where
   pub start : ℕ
   pub first : LogText
   pub more : List LogText
@@ -125,7 +125,7 @@ pub record IsReady (state : VolumeState) (geo : RawGeometry) (from lnum offs num
   pub spare : (k : ℕ) (leb : List ℕ) → IsLogLeb geo k → (IsAmong k (first ∷ more) → ⊥) → state.left_now k leb → IsPassedOver start number past k leb
 
 -- this node was found whole, with this number and at this place
-pub record IsWhole (left : List ℕ) (place number : ℕ) (node : SystemNode) (found : Found) : Type 0 where
+pub record IsFoundWhole (left : List ℕ) (place number : ℕ) (node : SystemNode) (found : Found) : Type 0 where
   pub offs : found.offs ≡ place
   pub sqnum : found.sqnum ≡ number
   pub kind : found.kind ≡ node_type node
@@ -135,11 +135,11 @@ pub record IsWhole (left : List ℕ) (place number : ℕ) (node : SystemNode) (f
 abbrev pub ArePart : List ℕ → ℕ → ℕ → List SystemNode → List Found → Type 0
 ArePart left place number nodes [] = ⊤
 ArePart left place number [] (found ∷ others) = (found.kind ≡ types.Padding) × ArePart left place number [] others
-ArePart left place number (node ∷ nodes) (found ∷ others) = IsWhole left place (number + 1) node found × ArePart left (place + found.len) (number + 1) nodes others
+ArePart left place number (node ∷ nodes) (found ∷ others) = IsFoundWhole left place (number + 1) node found × ArePart left (place + found.len) (number + 1) nodes others
 
 -- Of what a cut may leave of a LEB while nodes are written from a place on, this is what is meant: no torn node has a
 -- matching checksum. So the text from the place on has the first of these nodes alone.
-pub record IsMeant (number place : ℕ) (nodes : List SystemNode) (left : List ℕ) : Type 0 where
+pub record IsLogMeant (number place : ℕ) (nodes : List SystemNode) (left : List ℕ) : Type 0 where
   pub items : List Item
   pub end : ℕ
   pub tail : Tail
@@ -148,4 +148,4 @@ pub record IsMeant (number place : ℕ) (nodes : List SystemNode) (left : List �
 
 -- the same of a LEB that a cut may have left as it was before the write began
 abbrev pub IsOldOrMeant : VolumeState → ℕ → ℕ → ℕ → List SystemNode → List ℕ → Type 0
-IsOldOrMeant old lnum place number nodes left = old.left_now lnum left ⊎ IsMeant number place nodes left
+IsOldOrMeant old lnum place number nodes left = old.left_now lnum left ⊎ IsLogMeant number place nodes left

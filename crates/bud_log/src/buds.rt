@@ -3,7 +3,7 @@
 ghost use Rattle.std.specs.Prelude.{◌≡◌, ◌+◌, ◌<◌, ◌≤◌, ◌^◌, ℕ, length, IfSome, IfNone, IsSome, OnOk};
 ghost use Rattle.media_sys.specs.SystemNode.{IsRef};
 ghost use Rattle.media_sys.specs.declared.ref_node.RefNode.{RefNode as AReference};
-ghost use Rattle.bud_log.specs.Buds.{named};
+ghost use Rattle.bud_log.specs.Buds.{named_also};
 ghost use Rattle.bud_log.specs.LogText.{IsReferenceAt};
 ghost use Rattle.bud_log.specs.Seen.{AreNamed};
 
@@ -54,7 +54,7 @@ fn reference_of(alloc: Global, bytes: &[u8]) -> Option<RefNode>
 
 // Names a bud.
 fn name_bud(buds: &mut Vec<HeadAt>, node: RefNode) -> Result<(), AllocError>
-    ensures { OnOk result (buds.new.items ≡ named buds.old.items node) }
+    ensures { OnOk result (buds.new.items ≡ named_also buds.old.items node) }
 {
     for index in 0..buds.len() {
         if buds[index].lnum == node.lnum {

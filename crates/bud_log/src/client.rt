@@ -4,11 +4,11 @@ ghost use Rattle.std.specs.Prelude.{◌≡◌, ◌^◌, ◌<◌, ◌≤◌, ℕ,
 ghost use Rattle.ubifs_base.specs.Areas.{main_first};
 ghost use Rattle.ubifs_base.specs.RawOf.{raw_of};
 ghost use Rattle.leb_scan.specs.declared.tail.Tail.TheVariants.{Clean};
-ghost use Rattle.bud_log.specs.Buds.{named, buds_of};
+ghost use Rattle.bud_log.specs.Buds.{named_also, buds_of};
 ghost use Rattle.bud_log.specs.Log.{log_of, next_leb as leb_behind};
 ghost use Rattle.bud_log.specs.LogAnswers.{IsSection};
 ghost use Rattle.bud_log.specs.LogAt.{LogAt, IsAt, used_lebs, references_to};
-ghost use Rattle.bud_log.specs.Writing.{AreOthersOlder, IsReady, offs_behind};
+ghost use Rattle.bud_log.specs.Writing.{AreOthersOlder, IsLogReady, offs_behind};
 ghost use Rattle.bud_log.specs.declared.head_at.HeadAt.{HeadAt as AHead};
 
 use crate::head_at::HeadAt;
@@ -37,7 +37,7 @@ pub fn start_and_open<V: Volume>(
     requires bud { lnum < (V.state volume.old).leb_cnt }
     requires older { AreOthersOlder (V.state volume.old) log.old.geo (leb_behind log.old.geo log.old.lnum) sqnum.old }
     ensures at { IfSome result (λ done. IsAt (V.state volume.new) log.new) }
-    ensures ready { IfSome result (λ done. IsReady (V.state volume.new) log.new.geo log.new.section log.new.lnum log.new.offs sqnum.new (named (buds_of (references_to heads.now)) (record { lnum = lnum; offs = 0; head = head }))) }
+    ensures ready { IfSome result (λ done. IsLogReady (V.state volume.new) log.new.geo log.new.section log.new.lnum log.new.offs sqnum.new (named_also (buds_of (references_to heads.now)) (record { lnum = lnum; offs = 0; head = head }))) }
     ensures stands { IfSome result (λ done. IsSection (V.state volume.new) log.new sqnum.old) }
 {
     let Ok(()) = log.start_section(volume, 5, heads, sqnum) else {
@@ -62,15 +62,15 @@ pub fn open_unmounted<V: Volume>(
 ) -> Option<(Log, u64)>
     requires geo { log.now.geo ≡ raw_of geometry.now }
     requires at { IsAt (V.state volume.old) log.now }
-    requires stands { (number : ℕ) × (low : ℕ) × (buds : List AHead) × IsReady (V.state volume.old) log.now.geo log.now.section log.now.lnum log.now.offs number buds × IsSection (V.state volume.old) log.now low }
+    requires stands { (number : ℕ) × (low : ℕ) × (buds : List AHead) × IsLogReady (V.state volume.old) log.now.geo log.now.section log.now.lnum log.now.offs number buds × IsSection (V.state volume.old) log.now low }
     requires main { main_first log.now.geo ≤ lnum }
     requires bud { lnum < (V.state volume.old).leb_cnt }
     ensures at { IfSome result (λ after. IsAt (V.state volume.new) after.0) }
     ensures ready { IfSome result (λ after. (number : ℕ) (buds : List AHead)
-        → IsReady (V.state volume.old) log.now.geo log.now.section log.now.lnum log.now.offs number buds
-        → IsReady (V.state volume.new) after.0.geo after.0.section after.0.lnum after.0.offs after.1 (named buds (record { lnum = lnum; offs = 0; head = head }))) }
+        → IsLogReady (V.state volume.old) log.now.geo log.now.section log.now.lnum log.now.offs number buds
+        → IsLogReady (V.state volume.new) after.0.geo after.0.section after.0.lnum after.0.offs after.1 (named_also buds (record { lnum = lnum; offs = 0; head = head }))) }
     ensures stands { IfSome result (λ after. (number low : ℕ) (buds : List AHead)
-        → IsReady (V.state volume.old) log.now.geo log.now.section log.now.lnum log.now.offs number buds
+        → IsLogReady (V.state volume.old) log.now.geo log.now.section log.now.lnum log.now.offs number buds
         → IsSection (V.state volume.old) log.now low → IsSection (V.state volume.new) after.0 low) }
 {
     one_text();

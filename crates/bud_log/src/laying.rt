@@ -2,7 +2,7 @@
 
 ghost use Rattle.std.specs.Prelude.{◌≡◌, ◌<◌, ◌≤◌, ◌+◌, ◌-◌, ◌*◌, ◌%◌, ◌^◌, ℕ, [], ◌∷◌, length};
 ghost use Rattle.media_sys.specs.SystemNode.{reference};
-ghost use Rattle.bud_log.specs.LogAt.{room_of, head_nodes, section_nodes};
+ghost use Rattle.bud_log.specs.LogAt.{padded_room_of, head_nodes, section_nodes};
 ghost use Rattle.bud_log.specs.Writing.{AreNodes};
 
 use crate::head_at::HeadAt;
@@ -15,7 +15,7 @@ pub(crate) fn room_for(unit: u32, len: u32) -> u32
     requires most { unit ≤ 16384 }
     requires some { 0 < len }
     requires len { len ≤ 224 }
-    ensures room { result ≡ room_of unit len }
+    ensures room { result ≡ padded_room_of unit len }
     ensures low { len ≤ result }
     ensures high { result ≤ len + (unit - 1) }
     ensures buffer { result ≤ 16384 }

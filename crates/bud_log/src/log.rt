@@ -8,13 +8,13 @@ ghost use Rattle.ubi_volume.specs.Frame.{IsSameLeb, Works};
 ghost use Rattle.ubi_volume.specs.Faults.{HasCause, StaysSure};
 ghost use Rattle.media_sys.specs.SystemNode.{reference};
 ghost use Rattle.bud_log.specs.AfterCut.{lebs_to, IsLeftReady, IsLeftOpened, IsLeftStarted};
-ghost use Rattle.bud_log.specs.Buds.{named, buds_of};
+ghost use Rattle.bud_log.specs.Buds.{named_also, buds_of};
 ghost use Rattle.bud_log.specs.Log.{IsLogLeb, next_leb as leb_behind};
-ghost use Rattle.bud_log.specs.LogAnswers.{StartsWith, IsAnswered, IsLogAnswered, IsOpened, IsStarted, HasEnded};
-ghost use Rattle.bud_log.specs.LogAt.{LogAt, IsAt, IsStart, IsBetween, IsEnded, IsFull, IsFullExactly, IsRaised, room_of, used_lebs, most_lebs, has_room as has_room_at, next_lnum, next_offs, lnum_at, offs_at, ending, references_to, section_nodes};
+ghost use Rattle.bud_log.specs.LogAnswers.{StartsWith, IsLogCallAnswered, IsLogAnswered, IsBudOpened, IsSectionStarted, HasEnded};
+ghost use Rattle.bud_log.specs.LogAt.{LogAt, IsAt, IsLogStart, IsBetween, IsOfEarlierSection, IsLogFull, IsFullExactly, IsRaised, padded_room_of, used_lebs, most_lebs, has_room as has_room_at, next_lnum, next_offs, lnum_at, offs_at, ending, references_to, section_nodes};
 ghost use Rattle.bud_log.specs.LogText.{StartsCommit, IsNoLoneStart};
-ghost use Rattle.bud_log.specs.LogCalls.{IsEmptied, IsBegun, BeginUnderWay, IsAdded, AddDuring, OpenUnderWay, StartUnderWay, UnmapUnderWay, EndUnderWay};
-ghost use Rattle.bud_log.specs.Writing.{AreSpelled, AreOthersOlder, IsReady, IsOldOrMeant};
+ghost use Rattle.bud_log.specs.LogCalls.{IsEmptied, IsLebBegun, BeginUnderWay, IsAdded, AddDuring, OpenUnderWay, StartUnderWay, UnmapUnderWay, EndUnderWay};
+ghost use Rattle.bud_log.specs.Writing.{AreSpelled, AreOthersOlder, IsLogReady, IsOldOrMeant};
 ghost use Rattle.bud_log.specs.declared.head_at.HeadAt.{HeadAt as AHead};
 
 use crate::head_at::HeadAt;
@@ -90,17 +90,17 @@ impl Log {
         requires bud { lnum < (V.state volume.old).leb_cnt }
         requires number { sqnum.old < 2 ^ 63 + 2 ^ 56 }
         ensures full { IsFullExactly (V.state volume.old) (V.state volume.new) self.old result }
-        ensures done { OnOk result ((from : ℕ) (buds : List AHead) → IsStart self.old from
-            → IsReady (V.state volume.old) self.old.geo from self.old.lnum self.old.offs sqnum.old buds
-            → IsReady (V.state volume.new) self.new.geo from self.new.lnum self.new.offs sqnum.new (named buds (record { lnum = lnum; offs = 0; head = head }))) }
-        ensures any_moment { (from : ℕ) (buds : List AHead) → IsStart self.old from
-            → IsReady (V.state volume.old) self.old.geo from self.old.lnum self.old.offs sqnum.old buds
+        ensures done { OnOk result ((from : ℕ) (buds : List AHead) → IsLogStart self.old from
+            → IsLogReady (V.state volume.old) self.old.geo from self.old.lnum self.old.offs sqnum.old buds
+            → IsLogReady (V.state volume.new) self.new.geo from self.new.lnum self.new.offs sqnum.new (named_also buds (record { lnum = lnum; offs = 0; head = head }))) }
+        ensures any_moment { (from : ℕ) (buds : List AHead) → IsLogStart self.old from
+            → IsLogReady (V.state volume.old) self.old.geo from self.old.lnum self.old.offs sqnum.old buds
             → Leaves (V.state volume.old) (V.state volume.new) (λ left.
             IsOldOrMeant (V.state volume.old) (next_lnum self.old) (next_offs self.old) sqnum.old (reference (record { lnum = lnum; offs = 0; head = head }) ∷ []) (left (next_lnum self.old))
             → IsLeftOpened left self.old from sqnum.old buds (record { lnum = lnum; offs = 0; head = head })) }
         ensures works { Works (V.state volume.old) (V.state volume.new) (λ k. (k ≡ lnum) ⊎ (k ≡ next_lnum self.old))
-            (OpenUnderWay (has_room_at self.old) (V.state volume.old) self.old lnum (room_of self.old.geo.min_io 64)) }
-        ensures opened { OnOk result (IsOpened (V.state volume.old) (V.state volume.new) self.old self.new lnum) }
+            (OpenUnderWay (has_room_at self.old) (V.state volume.old) self.old lnum (padded_room_of self.old.geo.min_io 64)) }
+        ensures opened { OnOk result (IsBudOpened (V.state volume.old) (V.state volume.new) self.old self.new lnum) }
         ensures answered { IsLogAnswered (V.state volume.old) (V.state volume.new) self.old self.new result × IsRaised sqnum.old sqnum.new (IsSameLeb (V.state volume.old) (V.state volume.new) (next_lnum self.old)) result }
     {
         one_node();
@@ -140,20 +140,20 @@ impl Log {
         requires kept { used_lebs self.old < self.old.geo.log_lebs }
         requires three { length heads.now ≤ 3 }
         requires number { sqnum.old < 2 ^ 63 + 2 ^ 56 }
-        ensures done { OnOk result ((from : ℕ) (buds : List AHead) → IsStart self.old from
-            → IsReady (V.state volume.old) self.old.geo from self.old.lnum self.old.offs sqnum.old buds
-            → IsReady (V.state volume.new) self.new.geo from self.new.lnum self.new.offs sqnum.new (fold named buds (references_to heads.now))) }
+        ensures done { OnOk result ((from : ℕ) (buds : List AHead) → IsLogStart self.old from
+            → IsLogReady (V.state volume.old) self.old.geo from self.old.lnum self.old.offs sqnum.old buds
+            → IsLogReady (V.state volume.new) self.new.geo from self.new.lnum self.new.offs sqnum.new (fold named_also buds (references_to heads.now))) }
         ensures section { OnOk result (AreOthersOlder (V.state volume.old) self.old.geo (leb_behind self.old.geo self.old.lnum) sqnum.old
-            → IsReady (V.state volume.new) self.new.geo self.new.section self.new.lnum self.new.offs sqnum.new (buds_of (references_to heads.now))) }
-        ensures any_moment { (from : ℕ) (buds : List AHead) → IsStart self.old from
-            → IsReady (V.state volume.old) self.old.geo from self.old.lnum self.old.offs sqnum.old buds
+            → IsLogReady (V.state volume.new) self.new.geo self.new.section self.new.lnum self.new.offs sqnum.new (buds_of (references_to heads.now))) }
+        ensures any_moment { (from : ℕ) (buds : List AHead) → IsLogStart self.old from
+            → IsLogReady (V.state volume.old) self.old.geo from self.old.lnum self.old.offs sqnum.old buds
             → Leaves (V.state volume.old) (V.state volume.new) (λ left.
             IsOldOrMeant (V.state volume.old) (leb_behind self.old.geo self.old.lnum) 0 sqnum.old (section_nodes cmt_no heads.now) (left (leb_behind self.old.geo self.old.lnum))
             → IsLeftStarted left self.old from sqnum.old buds (references_to heads.now)) }
         ensures works { Works (V.state volume.old) (V.state volume.new) (λ k. k ≡ leb_behind self.old.geo self.old.lnum)
-            (StartUnderWay (V.state volume.old) self.old (room_of self.old.geo.min_io (32 + 64 * length heads.now))) }
-        ensures started { OnOk result (IsStarted (V.state volume.old) (V.state volume.new) self.old self.new cmt_no (length heads.now) sqnum.old) }
-        ensures answered { IsAnswered (V.state volume.old) (V.state volume.new) self.old self.new result × (sqnum.new ≡ sqnum.old + (1 + length heads.now)) }
+            (StartUnderWay (V.state volume.old) self.old (padded_room_of self.old.geo.min_io (32 + 64 * length heads.now))) }
+        ensures started { OnOk result (IsSectionStarted (V.state volume.old) (V.state volume.new) self.old self.new cmt_no (length heads.now) sqnum.old) }
+        ensures answered { IsLogCallAnswered (V.state volume.old) (V.state volume.new) self.old self.new result × (sqnum.new ≡ sqnum.old + (1 + length heads.now)) }
     {
         one_node();
         let number = *sqnum;
@@ -170,13 +170,13 @@ impl Log {
     /// written on.
     pub fn end_section<V: Volume>(&mut self, volume: &mut V) -> Result<(), VolFault>
         requires at { IsAt (V.state volume.old) self.old }
-        ensures stands { (number : ℕ) (buds : List AHead) → IsReady (V.state volume.old) self.old.geo self.old.section self.old.lnum self.old.offs number buds
-            → IsReady (V.state volume.new) self.old.geo self.old.section self.old.lnum self.old.offs number buds }
-        ensures any_moment { (number : ℕ) (buds : List AHead) → IsReady (V.state volume.old) self.old.geo self.old.section self.old.lnum self.old.offs number buds
+        ensures stands { (number : ℕ) (buds : List AHead) → IsLogReady (V.state volume.old) self.old.geo self.old.section self.old.lnum self.old.offs number buds
+            → IsLogReady (V.state volume.new) self.old.geo self.old.section self.old.lnum self.old.offs number buds }
+        ensures any_moment { (number : ℕ) (buds : List AHead) → IsLogReady (V.state volume.old) self.old.geo self.old.section self.old.lnum self.old.offs number buds
             → Leaves (V.state volume.old) (V.state volume.new) (λ left. IsLeftReady left self.old.geo self.old.section (lebs_to self.old.geo self.old.section self.old.lnum) number buds) }
-        ensures works { Works (V.state volume.old) (V.state volume.new) (IsEnded self.old) (EndUnderWay (V.state volume.old) self.old) }
+        ensures works { Works (V.state volume.old) (V.state volume.new) (IsOfEarlierSection self.old) (EndUnderWay (V.state volume.old) self.old) }
         ensures ended { OnOk result (HasEnded (V.state volume.old) (V.state volume.new) self.old self.new) }
-        ensures answered { IsAnswered (V.state volume.old) (V.state volume.new) self.old self.new result }
+        ensures answered { IsLogCallAnswered (V.state volume.old) (V.state volume.new) self.old self.new result }
     {
         unmap_between(volume, &self.geometry, self.first, self.section)?;
         self.first = self.section;
@@ -197,13 +197,13 @@ impl Log {
         requires kept { (here ≡ false) → used_lebs self.old < self.old.geo.log_lebs }
         ensures spelled { AreSpelled number (reference node.now ∷ []) }
         ensures done { OnOk result ((from : ℕ) (buds : List AHead) → IsLogLeb self.old.geo from → ((here ≡ false) → leb_behind self.old.geo self.old.lnum ≢ from)
-            → IsReady (V.state volume.old) self.old.geo from self.old.lnum self.old.offs number buds
-            → IsReady (V.state volume.new) self.old.geo from (lnum_at here self.old) (offs_at here self.old + room_of self.old.geo.min_io 64) (number + 1) (named buds node.now)) }
+            → IsLogReady (V.state volume.old) self.old.geo from self.old.lnum self.old.offs number buds
+            → IsLogReady (V.state volume.new) self.old.geo from (lnum_at here self.old) (offs_at here self.old + padded_room_of self.old.geo.min_io 64) (number + 1) (named_also buds node.now)) }
         ensures section { OnOk result ((from known low : ℕ) (buds : List AHead) → IsLogLeb self.old.geo from → ((here ≡ false) → leb_behind self.old.geo self.old.lnum ≢ from)
-            → IsReady (V.state volume.old) self.old.geo from self.old.lnum self.old.offs known buds → StartsWith ((V.state volume.old).holds from) from low
+            → IsLogReady (V.state volume.old) self.old.geo from self.old.lnum self.old.offs known buds → StartsWith ((V.state volume.old).holds from) from low
             → StartsWith ((V.state volume.new).holds from) from low × IsNoLoneStart ((V.state volume.new).holds (lnum_at here self.old)) (lnum_at here self.old)) }
-        ensures works { WorksOn (V.state volume.old) (V.state volume.new) (lnum_at here self.old) (AddDuring here (V.state volume.old) self.old (room_of self.old.geo.min_io 64)) }
-        ensures moved { OnOk result (self.new ≡ ending self.old (lnum_at here self.old) (offs_at here self.old + room_of self.old.geo.min_io 64)) }
+        ensures works { WorksOn (V.state volume.old) (V.state volume.new) (lnum_at here self.old) (AddDuring here (V.state volume.old) self.old (padded_room_of self.old.geo.min_io 64)) }
+        ensures moved { OnOk result (self.new ≡ ending self.old (lnum_at here self.old) (offs_at here self.old + padded_room_of self.old.geo.min_io 64)) }
         ensures stays { OnErr result (self.new ≡ self.old) }
         ensures at { OnOk result (IsAt (V.state volume.new) self.new) }
         ensures shape { SameShape (V.state volume.old) (V.state volume.new) }
@@ -232,16 +232,16 @@ impl Log {
         requires kept { used_lebs self.old < self.old.geo.log_lebs }
         ensures spelled { AreSpelled number (section_nodes cmt_no heads.now) }
         ensures done { OnOk result ((from next : ℕ) (buds : List AHead) → IsLogLeb self.old.geo from → (leb_behind self.old.geo self.old.lnum ≢ from) → (number < next)
-            → IsReady (V.state volume.old) self.old.geo from self.old.lnum self.old.offs number buds
-            → IsReady (V.state volume.new) self.old.geo from (leb_behind self.old.geo self.old.lnum) (room_of self.old.geo.min_io (32 + 64 * length heads.now)) next (fold named buds (references_to heads.now))) }
+            → IsLogReady (V.state volume.old) self.old.geo from self.old.lnum self.old.offs number buds
+            → IsLogReady (V.state volume.new) self.old.geo from (leb_behind self.old.geo self.old.lnum) (padded_room_of self.old.geo.min_io (32 + 64 * length heads.now)) next (fold named_also buds (references_to heads.now))) }
         ensures commit { OnOk result (StartsCommit ((V.state volume.new).holds (leb_behind self.old.geo self.old.lnum)) (leb_behind self.old.geo self.old.lnum) cmt_no) }
         ensures starts { OnOk result (StartsWith ((V.state volume.new).holds (leb_behind self.old.geo self.old.lnum)) (leb_behind self.old.geo self.old.lnum) (number + 1)) }
         ensures section { OnOk result ((next : ℕ) → (number < next)
             → AreOthersOlder (V.state volume.old) self.old.geo (leb_behind self.old.geo self.old.lnum) number
             → let there = leb_behind self.old.geo self.old.lnum in
-            IsReady (V.state volume.new) self.old.geo there there (room_of self.old.geo.min_io (32 + 64 * length heads.now)) next (buds_of (references_to heads.now))) }
-        ensures works { WorksOn (V.state volume.old) (V.state volume.new) (leb_behind self.old.geo self.old.lnum) (AddDuring false (V.state volume.old) self.old (room_of self.old.geo.min_io (32 + 64 * length heads.now))) }
-        ensures moved { OnOk result (self.new ≡ ending self.old (leb_behind self.old.geo self.old.lnum) (room_of self.old.geo.min_io (32 + 64 * length heads.now))) }
+            IsLogReady (V.state volume.new) self.old.geo there there (padded_room_of self.old.geo.min_io (32 + 64 * length heads.now)) next (buds_of (references_to heads.now))) }
+        ensures works { WorksOn (V.state volume.old) (V.state volume.new) (leb_behind self.old.geo self.old.lnum) (AddDuring false (V.state volume.old) self.old (padded_room_of self.old.geo.min_io (32 + 64 * length heads.now))) }
+        ensures moved { OnOk result (self.new ≡ ending self.old (leb_behind self.old.geo self.old.lnum) (padded_room_of self.old.geo.min_io (32 + 64 * length heads.now))) }
         ensures stays { OnErr result (self.new ≡ self.old) }
         ensures at { OnOk result (IsAt (V.state volume.new) self.new) }
         ensures shape { SameShape (V.state volume.old) (V.state volume.new) }
@@ -299,8 +299,8 @@ impl Log {
         requires in_log { IsLogLeb self.now.geo self.now.lnum }
         requires first { IsLogLeb self.now.geo self.now.first }
         requires here { here ≡ has_room_at self.now }
-        ensures yes { IsTrue result → IsFull self.now }
-        ensures no { IsFalse result → IsFull self.now → ⊥ }
+        ensures yes { IsTrue result → IsLogFull self.now }
+        ensures no { IsFalse result → IsLogFull self.now → ⊥ }
         ensures kept { IsFalse result → (here ≡ false) → used_lebs self.now < self.now.geo.log_lebs }
     {
         !here && self.limit() <= self.used()
@@ -349,7 +349,7 @@ fn begin<V: Volume>(volume: &mut V, lnum: u32, bytes: &[u8]) -> Result<(), VolFa
     requires lnum { lnum < (V.state volume.old).leb_cnt }
     requires range { length bytes.now ≤ (V.state volume.old).leb_size }
     requires units { AreUnits (V.state volume.old).min_io 0 (length bytes.now) }
-    ensures done { OnOk result (IsBegun (V.state volume.old) (V.state volume.new) lnum bytes.now) }
+    ensures done { OnOk result (IsLebBegun (V.state volume.old) (V.state volume.new) lnum bytes.now) }
     ensures works { WorksOn (V.state volume.old) (V.state volume.new) lnum (BeginUnderWay (V.state volume.old) lnum (length bytes.now)) }
     ensures shape { SameShape (V.state volume.old) (V.state volume.new) }
     ensures cause { HasCause (V.state volume.old).faults (V.state volume.new).faults result }

@@ -4,17 +4,17 @@ use Rattle.std.proofs.lemmas.List.{append-nil, length-map}
 use Rattle.std.proofs.lemmas.List.Elements.{All-cons, All-head, All-nil, All-push, All-tail}
 use Rattle.atomic_table.specs.Seated.{TableId}
 use Rattle.fs_laws.specs.Sound.{IsCall}
-use Rattle.traced_files.specs.States.{PassState, fresh_pass, fresh_passes}
+use Rattle.traced_files.specs.States.{TracedPassState, fresh_pass, fresh_passes}
 use Rattle.writeback.specs.declared.job.Job.{Job}
 use Rattle.writeback.specs.Runs.{MayRun}
 
-abbrev pub pass_of : Job → PassState
+abbrev pub pass_of : Job → TracedPassState
 pass_of j = j.pass
 
 abbrev pub HasCalls : Job → Type 0
 HasCalls j = All IsCall j.ops.items
 
-abbrev pub IsOf : TableId → TableId → PassState → Type 0
+abbrev pub IsOf : TableId → TableId → TracedPassState → Type 0
 IsOf word pool p = (p.word ≡ word) × (p.pool ≡ pool)
 
 -- one more came
@@ -46,9 +46,9 @@ all_may word pool (j ∷ js) passes calls =
     All-cons (λ (j : Job). MayRun word pool j) j js (first.0, first.1, All-head HasCalls j js calls) (all_may word pool js (All-tail (IsOf word pool) (pass_of j) (map pass_of js) passes) (All-tail HasCalls j js calls))
 
 -- the jobs of new passes may run
-pub fresh_may : (word pool : TableId) (n : ℕ) (jobs : List Job) (passes : List PassState) → map pass_of jobs ≡ passes → passes ≡ fresh_passes word pool n → All HasCalls jobs → All (λ j. MayRun word pool j) jobs
+pub fresh_may : (word pool : TableId) (n : ℕ) (jobs : List Job) (passes : List TracedPassState) → map pass_of jobs ≡ passes → passes ≡ fresh_passes word pool n → All HasCalls jobs → All (λ j. MayRun word pool j) jobs
 fresh_may word pool n jobs passes are fresh calls = all_may word pool jobs (subst (All (IsOf word pool)) (sym (are ∙ fresh)) (all_fresh word pool n)) calls
 
 -- there is one for each
-pub as_many : (word pool : TableId) (n : ℕ) (jobs : List Job) (passes : List PassState) → map pass_of jobs ≡ passes → passes ≡ fresh_passes word pool n → length jobs ≡ n
+pub as_many : (word pool : TableId) (n : ℕ) (jobs : List Job) (passes : List TracedPassState) → map pass_of jobs ≡ passes → passes ≡ fresh_passes word pool n → length jobs ≡ n
 as_many word pool n jobs passes are fresh = sym (length-map jobs pass_of) ∙ ap length (are ∙ fresh) ∙ length-fresh_passes word pool n

@@ -3,7 +3,7 @@
 ghost use Rattle.std.specs.Prelude.{◌≡◌, IfOk, length};
 ghost use Rattle.fs_model.specs.Making.{new_dir};
 ghost use Rattle.fs_model.specs.Worked.{fresh};
-ghost use Rattle.plain_backing.specs.PlainBacking.{state_of};
+ghost use Rattle.plain_backing.specs.PlainBacking.{backing_state_of};
 ghost use Rattle.vfs_ops.specs.Fs.{files_state};
 
 use fs_laws::a_fresh_volume_is_sound;
@@ -48,8 +48,8 @@ fn fresh_tree(alloc: Global) -> Result<Tree, Memory>
 
 // A fresh volume of 256 main LEBs, which takes eight orphans.
 fn fresh_backing(alloc: Global) -> Result<PlainBacking, Memory>
-    ensures tree { IfOk result (λ backing. (state_of backing).tree ≡ fresh.tree) }
-    ensures credits { IfOk result (λ backing. (state_of backing).space.credits ≡ 0) }
+    ensures tree { IfOk result (λ backing. (backing_state_of backing).tree ≡ fresh.tree) }
+    ensures credits { IfOk result (λ backing. (backing_state_of backing).space.credits ≡ 0) }
 {
     let Ok(geo) = Geometry::new(&RawGeometry::plain(16384, 512, 256, 8)) else {
         return Err(Memory);

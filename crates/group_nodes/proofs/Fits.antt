@@ -1,6 +1,6 @@
 -- Each number of a change's node fits its bytes.
 use Rattle.std.specs.Prelude.{◌==◌}
-use Rattle.group_nodes.specs.NodeLaws.{first_of}
+use Rattle.group_nodes.specs.NodeLaws.{first_of_two_tests}
 use Rattle.std.proofs.Common.{not, ℕ, ◌<◌, ◌≤◌, ◌^◌, false, List, length, arith}
 use Rattle.std.specs.Bool.{IsTrue}
 use Rattle.std.proofs.lemmas.Bool.Decides.{nat_tests}
@@ -12,7 +12,7 @@ use Rattle.fs_model.specs.declared.inode.Entry.{Entry}
 use Rattle.fs_model.specs.Backing.{is_node}
 use Rattle.fs_model.specs.Proper.{is_entry_node, is_name}
 use Rattle.group_nodes.specs.FitLaws.{r5_small, inode_words, mode_fits, kind_fits, block_ino, block_number}
-use Rattle.group_nodes.specs.Nodes.{entry_type, node_of}
+use Rattle.group_nodes.specs.Nodes.{type_of_entry, node_of}
 use Rattle.group_nodes.specs.NodeLaws.{plain_mode, most_data, most_bytes, name_most}
 use Rattle.group_nodes.specs.Texts.{leaf_len}
 
@@ -51,7 +51,7 @@ gone_ino : (ino : ℕ) → IsTrue (is_node (DropInode ino)) → ino < 2 ^ 32
 gone_ino ino h = grind (arith, nat_tests)
 
 entry_of : (e : Entry) → IsTrue (is_node (SetEntry e)) → IsTrue (is_entry_node ((e.dir, e.name), e))
-entry_of e h = first_of (is_entry_node ((e.dir, e.name), e)) (not (e.ino == 0)) h
+entry_of e h = first_of_two_tests (is_entry_node ((e.dir, e.name), e)) (not (e.ino == 0)) h
 
 pub node_fits : (change : Change) → IsTrue (is_node change) → AllFit (fields_of (node_of change))
 node_fits (SetInode ino node) h =
@@ -59,7 +59,7 @@ node_fits (SetInode ino node) h =
     let most = most_data (ino, node) h in
     let mode = mode_fits node.kind node.mode (plain_mode (ino, node) h) in
     (w.ino_fits, (omega arith, (w.size, (w.atime, (w.ctime, (w.mtime, (w.nlink, (w.uid, (w.gid, (mode, (w.flags, (omega (arith, most), (omega arith, (omega arith, (omega arith, tt)))))))))))))))
-node_fits (SetEntry e) h = entry_fits e.dir e.ino (entry_type e.kind) e.name (entry_dir e (entry_of e h)) (entry_ino e (entry_of e h)) (kind_fits e.kind) (name_most e.name (entry_name e (entry_of e h)))
+node_fits (SetEntry e) h = entry_fits e.dir e.ino (type_of_entry e.kind) e.name (entry_dir e (entry_of e h)) (entry_ino e (entry_of e h)) (kind_fits e.kind) (name_most e.name (entry_name e (entry_of e h)))
 node_fits (DropEntry dir name) h = entry_fits dir 0 0 name (dropped_dir dir name h) (omega arith) (omega arith) (name_most name (dropped_name dir name h))
 node_fits (SetBlock ino number bytes) h =
     let stored : (ℕ × ℕ) × List ℕ = ((ino, number), bytes) in

@@ -9,7 +9,7 @@ use Rattle.media_leaf.specs.declared.dent_node.DentNode.{DentNode}
 use Rattle.media_leaf.specs.declared.ino_node.InoNode.{InoNode}
 use Rattle.media_leaf.specs.declared.trun_node.TrunNode.{TrunNode}
 use Rattle.fs_model.specs.declared.change.Change.{Change}
-use Rattle.group_nodes.specs.Nodes.{IsReadOf, change_of}
+use Rattle.group_nodes.specs.Nodes.{IsChangeReadOf, change_of}
 
 -- bytes are at most one node
 abbrev pub OneNode : Type 0
@@ -25,14 +25,14 @@ some_of bytes None node h is = tt
 some_of bytes (Some change) node h is = (h.0, h.1, node, h.2, sym is)
 
 -- what the node carries is read
-pub read_of : OneNode → (bytes : List ℕ) (read : Option Change) (node : LeafNode) → IsBytes bytes → Are bytes node → read ≡ change_of node → IsReadOf bytes read
+pub read_of : OneNode → (bytes : List ℕ) (read : Option Change) (node : LeafNode) → IsBytes bytes → Are bytes node → read ≡ change_of node → IsChangeReadOf bytes read
 read_of law bytes read node fits h is = record {
   exact = λ sqnum group other there. is ∙ ap change_of (law bytes h.0 h.1 sqnum group node other fits h.2 there).2;
   some = some_of bytes read node h is;
 }
 
 -- where there is no node nothing is read
-none_read : (bytes : List ℕ) → ((sqnum group : ℕ) (node : LeafNode) → IsLeafNode bytes sqnum group node → ⊥) → IsReadOf bytes None
+none_read : (bytes : List ℕ) → ((sqnum group : ℕ) (node : LeafNode) → IsLeafNode bytes sqnum group node → ⊥) → IsChangeReadOf bytes None
 none_read bytes none = record { exact = λ sqnum group node h. absurd (none sqnum group node h); some = tt }
 
 -- ---- by the type in the header
@@ -89,21 +89,21 @@ some_is {X} o x P is h = let Q : Option X → Type 0 = λ r. IfSome r P in subst
 none_is : {X : Type 0} (o : Option X) (P : Type 0) → o ≡ None → IfNone o P → P
 none_is {X} o P is h = let Q : Option X → Type 0 = λ r. IfNone r P in subst Q is h
 
-pub no_leaf : (bytes : List ℕ) → IsBytes bytes → 5 ≤ slice_index bytes 20 → IsReadOf bytes None
+pub no_leaf : (bytes : List ℕ) → IsBytes bytes → 5 ≤ slice_index bytes 20 → IsChangeReadOf bytes None
 no_leaf bytes fits kind = none_read bytes (only_leaves bytes fits kind)
 
 pub no_inode : (bytes : List ℕ) (o : Option InoNode) → IsBytes bytes → slice_index bytes 20 ≡ 0 → o ≡ None
-    → IfNone o ((sqnum group : ℕ) (node : InoNode) → IsLeafNode bytes sqnum group (inode node) → ⊥) → IsReadOf bytes None
+    → IfNone o ((sqnum group : ℕ) (node : InoNode) → IsLeafNode bytes sqnum group (inode node) → ⊥) → IsChangeReadOf bytes None
 no_inode bytes o fits kind is none = none_read bytes (only_inodes bytes fits kind (none_is o _ is none))
 
 pub no_block : (bytes : List ℕ) (o : Option DataNode) → IsBytes bytes → slice_index bytes 20 ≡ 1 → o ≡ None
-    → IfNone o ((sqnum group : ℕ) (node : DataNode) → IsLeafNode bytes sqnum group (block node) → ⊥) → IsReadOf bytes None
+    → IfNone o ((sqnum group : ℕ) (node : DataNode) → IsLeafNode bytes sqnum group (block node) → ⊥) → IsChangeReadOf bytes None
 no_block bytes o fits kind is none = none_read bytes (only_blocks bytes fits kind (none_is o _ is none))
 
 pub no_entry : (bytes : List ℕ) (o : Option DentNode) → IsBytes bytes → (slice_index bytes 20 ≡ 2) ⊎ (slice_index bytes 20 ≡ 3) → o ≡ None
-    → IfNone o ((sqnum group : ℕ) (node : DentNode) → IsLeafNode bytes sqnum group (entry node) → ⊥) → IsReadOf bytes None
+    → IfNone o ((sqnum group : ℕ) (node : DentNode) → IsLeafNode bytes sqnum group (entry node) → ⊥) → IsChangeReadOf bytes None
 no_entry bytes o fits kind is none = none_read bytes (only_entries bytes fits (other_than (slice_index bytes 20) kind) (none_is o _ is none))
 
 pub no_truncation : (bytes : List ℕ) (o : Option TrunNode) → IsBytes bytes → slice_index bytes 20 ≡ 4 → o ≡ None
-    → IfNone o ((sqnum group : ℕ) (node : TrunNode) → IsLeafNode bytes sqnum group (truncation node) → ⊥) → IsReadOf bytes None
+    → IfNone o ((sqnum group : ℕ) (node : TrunNode) → IsLeafNode bytes sqnum group (truncation node) → ⊥) → IsChangeReadOf bytes None
 no_truncation bytes o fits kind is none = none_read bytes (only_truncations bytes fits kind (none_is o _ is none))

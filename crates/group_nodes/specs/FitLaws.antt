@@ -9,7 +9,7 @@ use Rattle.fs_model.specs.declared.inode.Inode.{Inode}
 use Rattle.fs_model.specs.declared.inode.Kind.{Kind}
 use Rattle.fs_model.specs.declared.inode.Kind.TheVariants.{File, Dir, Symlink, Block, Char, Fifo, Socket}
 use Rattle.fs_model.specs.Proper.{is_block_node, is_inode_node}
-use Rattle.group_nodes.specs.Nodes.{entry_type, type_bits}
+use Rattle.group_nodes.specs.Nodes.{type_of_entry, type_bits}
 
 -- a hash has 29 bits
 above_two : (masked : ℕ) → masked < 2 ^ 29 → (if nat_le masked 2 then masked + 3 else masked) < 2 ^ 29
@@ -57,7 +57,7 @@ mode_fits Fifo mode h = omega (arith, h)
 mode_fits Socket mode h = omega (arith, h)
 
 -- the type of an entry
-pub kind_fits : (kind : Kind) → entry_type kind < 256
+pub kind_fits : (kind : Kind) → type_of_entry kind < 256
 kind_fits File = omega arith
 kind_fits Dir = omega arith
 kind_fits Symlink = omega arith

@@ -17,11 +17,11 @@ use Rattle.fs_model.specs.Backing.{is_node}
 use Rattle.fs_model.specs.Path.{is_empty}
 use Rattle.fs_model.specs.Proper.{has_data, is_inode_node, is_block_node, is_entry_node, is_name}
 use Rattle.fs_model.specs.Recovery.{as_replayed}
-use Rattle.group_nodes.specs.Nodes.{type_bits, entry_type, kind_of_bits, kind_of_type, bits_of, inode_node, inode_of, inode_change, node_of, change_of, HasPlainMode}
+use Rattle.group_nodes.specs.Nodes.{type_bits, type_of_entry, kind_of_bits, kind_of_type, bits_of, inode_node, inode_of, inode_change, node_of, change_of, HasPlainMode}
 
 -- ---- an inode is a node
-pub numbered : (e : ℕ × Inode) → IsTrue (is_inode_node e) → 1 ≤ e.0
-numbered e h = grind (arith, nat_tests)
+pub inode_numbered : (e : ℕ × Inode) → IsTrue (is_inode_node e) → 1 ≤ e.0
+inode_numbered e h = grind (arith, nat_tests)
 
 pub plain_mode : (e : ℕ × Inode) → IsTrue (is_inode_node e) → e.1.mode < 4096
 plain_mode e h = grind (arith, nat_tests)
@@ -75,7 +75,7 @@ name_most name h = grind (arith, nat_tests)
 name_plain : (name : List ℕ) → IsTrue (is_name name) → IsTrue (list_all (λ b. not (b == 0) && not (b == 47)) name)
 name_plain name h = grind (arith, nat_tests)
 
-known : (kind : Kind) → entry_type kind ≤ 6
+known : (kind : Kind) → type_of_entry kind ≤ 6
 known File = omega arith
 known Dir = omega arith
 known Symlink = omega arith
@@ -92,7 +92,7 @@ dropped_ino ino h = grind (arith, nat_tests)
 
 -- whatever its size and its links
 pub leaf_of_inode : (e : ℕ × Inode) → IsTrue (is_inode_node e) → (size nlink : ℕ) → IsLeaf (node_of (SetInode e.0 (record e.1 { size = size; nlink = nlink })))
-leaf_of_inode e h size nlink = record { numbered = numbered e h; most = most_data e h; plain = without_data e.1.kind e.1.mode e.1.extra (plain_mode e h) (no_data e h) }
+leaf_of_inode e h size nlink = record { numbered = inode_numbered e h; most = most_data e h; plain = without_data e.1.kind e.1.mode e.1.extra (plain_mode e h) (no_data e h) }
 
 pub leaf_of_entry : (e : (ℕ × List ℕ) × Entry) → IsTrue (is_entry_node e) → IsLeaf (node_of (SetEntry e.1))
 leaf_of_entry e h =
@@ -106,9 +106,9 @@ leaf_of_entry e h =
     }
 
 -- two tests that pass together
-pub first_of : (a b : Bool) → IsTrue (a && b) → IsTrue a
-first_of true b h = refl
-first_of false b h = absurd cc
+pub first_of_two_tests : (a b : Bool) → IsTrue (a && b) → IsTrue a
+first_of_two_tests true b h = refl
+first_of_two_tests false b h = absurd cc
 
 pub second_of : (a b : Bool) → IsTrue (a && b) → IsTrue b
 second_of true b h = h
@@ -117,7 +117,7 @@ second_of false b h = absurd cc
 -- the node of a change is in the grammar
 pub leaf_of_node : (change : Change) → IsTrue (is_node change) → IsLeaf (node_of change)
 leaf_of_node (SetInode ino node) h = leaf_of_inode (ino, node) h node.size node.nlink
-leaf_of_node (SetEntry e) h = leaf_of_entry ((e.dir, e.name), e) (first_of (is_entry_node ((e.dir, e.name), e)) (not (e.ino == 0)) h)
+leaf_of_node (SetEntry e) h = leaf_of_entry ((e.dir, e.name), e) (first_of_two_tests (is_entry_node ((e.dir, e.name), e)) (not (e.ino == 0)) h)
 leaf_of_node (DropEntry dir name) h =
     let is = dropped_name dir name h in
     record { inum_fits = omega arith; kind_known = omega arith; some = not_empty name (name_some name is); most = name_most name is; plain = name_plain name is }
@@ -164,7 +164,7 @@ bits_say Char = refl
 bits_say Fifo = refl
 bits_say Socket = refl
 
-type_says : (kind : Kind) → kind_of_type (entry_type kind) ≡ Some kind
+type_says : (kind : Kind) → kind_of_type (type_of_entry kind) ≡ Some kind
 type_says File = refl
 type_says Dir = refl
 type_says Symlink = refl
@@ -195,7 +195,7 @@ entry_carried : (e : Entry) → IsTrue (not (e.ino == 0)) → change_of (node_of
 entry_carried e some = by (e.ino == 0) some
   where
     by : (test : Bool) → IsTrue (not test)
-        → cond test (Some (DropEntry e.dir e.name)) (option_map (λ kind. SetEntry (record { dir = e.dir; name = e.name; ino = e.ino; kind = kind })) (kind_of_type (entry_type e.kind)))
+        → cond test (Some (DropEntry e.dir e.name)) (option_map (λ kind. SetEntry (record { dir = e.dir; name = e.name; ino = e.ino; kind = kind })) (kind_of_type (type_of_entry e.kind)))
         ≡ Some (SetEntry e)
     by true h = absurd cc
     by false h = ap (λ (k : Option Kind). option_map (λ kind. SetEntry (record { dir = e.dir; name = e.name; ino = e.ino; kind = kind })) k) (type_says e.kind)

@@ -24,14 +24,14 @@ type_bits Fifo = 0o010000
 type_bits Socket = 0o140000
 
 -- the type of an entry
-abbrev pub entry_type : Kind → ℕ
-entry_type File = 0
-entry_type Dir = 1
-entry_type Symlink = 2
-entry_type Block = 3
-entry_type Char = 4
-entry_type Fifo = 5
-entry_type Socket = 6
+abbrev pub type_of_entry : Kind → ℕ
+type_of_entry File = 0
+type_of_entry Dir = 1
+type_of_entry Symlink = 2
+type_of_entry Block = 3
+type_of_entry Char = 4
+type_of_entry Fifo = 5
+type_of_entry Socket = 6
 
 -- the kind of which these are the file type bits
 abbrev pub kind_of_bits : ℕ → Option Kind
@@ -87,7 +87,7 @@ gone_inode = record { kind = File; mode = 0; uid = 0; gid = 0; flags = 0; nlink 
 -- the node that carries a change
 abbrev pub node_of : Change → LeafNode
 node_of (SetInode ino node) = inode (inode_node ino node)
-node_of (SetEntry e) = entry (record { dir = e.dir; inum = e.ino; kind = entry_type e.kind; name = e.name; attribute = false })
+node_of (SetEntry e) = entry (record { dir = e.dir; inum = e.ino; kind = type_of_entry e.kind; name = e.name; attribute = false })
 node_of (DropEntry dir name) = entry (record { dir = dir; inum = 0; kind = 0; name = name; attribute = false })
 node_of (SetBlock ino number bytes) = block (record { ino = ino; block = number; bytes = bytes })
 node_of (CutBlocks ino old_size new_size) = truncation (record { ino = ino; old_size = old_size; new_size = new_size })
@@ -135,7 +135,7 @@ change_of (entry node) = entry_change node
 change_of (truncation node) = Some (CutBlocks node.ino node.old_size node.new_size)
 
 -- This is what is read of bytes: the change that their node carries, and none where they are no node.
-pub record IsReadOf (bytes : List ℕ) (read : Option Change) : Type 0 where
+pub record IsChangeReadOf (bytes : List ℕ) (read : Option Change) : Type 0 where
   pub exact : (sqnum group : ℕ) (node : LeafNode) → IsLeafNode bytes sqnum group node → read ≡ change_of node
   pub some : IfSome read (λ change. (sqnum : ℕ) × (group : ℕ) × (node : LeafNode) × IsLeafNode bytes sqnum group node × (change_of node ≡ Some change))
 

@@ -15,7 +15,7 @@ use Rattle.fs_model.specs.Cover.{inode_bytes, round_8}
 use Rattle.fs_model.specs.Files.{Tree, inode_at}
 use Rattle.fs_model.specs.Need.{change_bytes}
 use Rattle.group_nodes.specs.Nodes.{node_of}
-use Rattle.group_nodes.specs.Texts.{leaf_len, leaf_bytes, padded, leaf_text, text_bytes}
+use Rattle.group_nodes.specs.Texts.{leaf_len, padded_leaf_bytes, padded_node, leaf_text, text_bytes}
 use Rattle.group_nodes.specs.Groups.{group_type, texts_from, group_text}
 
 length-node_bytes : (sqnum kind group : ℕ) (body : List ℕ) → length (node_bytes sqnum kind group (0 ∷ 0 ∷ []) body) ≡ 24 + length body
@@ -35,14 +35,14 @@ length-written sqnum group leaf =
     ∙ ap (λ (n : ℕ). 24 + n) (length-spelling (fields_of leaf) (tail_of leaf))
     ∙ width leaf
 
-length-padded : (bytes : List ℕ) → length (padded bytes) ≡ round_8 (length bytes)
+length-padded : (bytes : List ℕ) → length (padded_node bytes) ≡ round_8 (length bytes)
 length-padded bytes =
     let n = round_8 (length bytes) - length bytes in
     let l = length-append bytes (replicate n 0xCE) in
     let r = length-replicate {A = ℕ} n 0xCE in
     omega (arith, l, r)
 
-pub length-leaf_text : (sqnum group : ℕ) (leaf : LeafNode) → length (leaf_text sqnum group leaf) ≡ leaf_bytes leaf
+pub length-leaf_text : (sqnum group : ℕ) (leaf : LeafNode) → length (leaf_text sqnum group leaf) ≡ padded_leaf_bytes leaf
 unfolding leaf_text
 length-leaf_text sqnum group leaf = length-padded (written sqnum group leaf) ∙ ap round_8 (length-written sqnum group leaf)
 

@@ -13,17 +13,17 @@ leaf_len (entry node) = 57 + length node.name
 leaf_len (truncation node) = 56
 
 -- and with the bytes up to a multiple of 8
-abbrev pub leaf_bytes : LeafNode → ℕ
-leaf_bytes leaf = round_8 (leaf_len leaf)
+abbrev pub padded_leaf_bytes : LeafNode → ℕ
+padded_leaf_bytes leaf = round_8 (leaf_len leaf)
 
 -- a node's bytes, and 0xCE up to a multiple of 8
-abbrev pub padded : List ℕ → List ℕ
-padded bytes = bytes ++ replicate (round_8 (length bytes) - length bytes) 0xCE
+abbrev pub padded_node : List ℕ → List ℕ
+padded_node bytes = bytes ++ replicate (round_8 (length bytes) - length bytes) 0xCE
 
 -- the text of a leaf with this sequence number and group type
 unfoldable pub leaf_text : ℕ → ℕ → LeafNode → List ℕ
-leaf_text sqnum group leaf = padded (written sqnum group leaf)
+leaf_text sqnum group leaf = padded_node (written sqnum group leaf)
 
 -- how many bytes the text of a change's node takes
 abbrev pub text_bytes : Change → ℕ
-text_bytes change = leaf_bytes (node_of change)
+text_bytes change = padded_leaf_bytes (node_of change)

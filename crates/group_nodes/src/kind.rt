@@ -1,7 +1,7 @@
 // Kinds of inodes, as modes and entries say them.
 
 ghost use Rattle.std.specs.Prelude.{◌≡◌, ◌≤◌};
-ghost use Rattle.group_nodes.specs.Nodes.{type_bits, entry_type, kind_of_bits, kind_of_type, bits_of};
+ghost use Rattle.group_nodes.specs.Nodes.{type_bits, type_of_entry, kind_of_bits, kind_of_type, bits_of};
 
 use fs_model::Kind;
 
@@ -23,7 +23,7 @@ pub(crate) fn type_bits(kind: Kind) -> u32
 
 // The type of an entry.
 pub(crate) fn entry_type(kind: Kind) -> u8
-    ensures { result ≡ entry_type kind }
+    ensures { result ≡ type_of_entry kind }
 {
     match kind {
         Kind::File => 0,

@@ -2,7 +2,7 @@
 
 ghost use Rattle.std.specs.Prelude.{◌≡◌, ◌≤◌, ◌⊎◌, IfOk, slice_index};
 ghost use Rattle.media_leaf.specs.LeafNode.{inode, truncation};
-ghost use Rattle.group_nodes.specs.Nodes.{IsReadOf, change_of, inode_change, entry_change};
+ghost use Rattle.group_nodes.specs.Nodes.{IsChangeReadOf, change_of, inode_change, entry_change};
 
 use crate::kind::{kind_of_mode, kind_of_type};
 use fs_model::{Change, Entry, Inode};
@@ -16,7 +16,7 @@ const TYPE_PLACE: usize = 20;
 /// The change that a leaf node carries (ubifs-media.h), of which the bytes are all: none where they are no leaf node, and
 /// where the node is that of an attribute or of an inode whose mode names no kind. The error is want of memory.
 pub fn read_change(alloc: Global, bytes: &[u8]) -> Result<Option<Change>, Memory>
-    ensures { IfOk result (λ read. IsReadOf bytes.now read) }
+    ensures { IfOk result (λ read. IsChangeReadOf bytes.now read) }
 {
     match type_in(bytes) {
         0 => read_inode(alloc, bytes),
@@ -39,7 +39,7 @@ fn type_in(bytes: &[u8]) -> u8
 
 fn read_none(bytes: &[u8]) -> Option<Change>
     requires { 5 ≤ slice_index bytes.now 20 }
-    ensures { IsReadOf bytes.now result }
+    ensures { IsChangeReadOf bytes.now result }
 {
     let _ = bytes;
     None
@@ -47,7 +47,7 @@ fn read_none(bytes: &[u8]) -> Option<Change>
 
 fn read_inode(alloc: Global, bytes: &[u8]) -> Result<Option<Change>, Memory>
     requires { slice_index bytes.now 20 ≡ 0 }
-    ensures { IfOk result (λ read. IsReadOf bytes.now read) }
+    ensures { IfOk result (λ read. IsChangeReadOf bytes.now read) }
 {
     one_node();
     let Some(node) = InoNode::decode(alloc, bytes)? else {
@@ -58,7 +58,7 @@ fn read_inode(alloc: Global, bytes: &[u8]) -> Result<Option<Change>, Memory>
 
 fn read_block(alloc: Global, bytes: &[u8]) -> Result<Option<Change>, Memory>
     requires { slice_index bytes.now 20 ≡ 1 }
-    ensures { IfOk result (λ read. IsReadOf bytes.now read) }
+    ensures { IfOk result (λ read. IsChangeReadOf bytes.now read) }
 {
     one_node();
     let Some(node) = DataNode::decode(alloc, bytes)? else {
@@ -73,7 +73,7 @@ fn read_block(alloc: Global, bytes: &[u8]) -> Result<Option<Change>, Memory>
 
 fn read_entry(alloc: Global, bytes: &[u8]) -> Result<Option<Change>, Memory>
     requires { (slice_index bytes.now 20 ≡ 2) ⊎ (slice_index bytes.now 20 ≡ 3) }
-    ensures { IfOk result (λ read. IsReadOf bytes.now read) }
+    ensures { IfOk result (λ read. IsChangeReadOf bytes.now read) }
 {
     one_node();
     let Some(node) = DentNode::decode(alloc, bytes)? else {
@@ -84,7 +84,7 @@ fn read_entry(alloc: Global, bytes: &[u8]) -> Result<Option<Change>, Memory>
 
 fn read_truncation(alloc: Global, bytes: &[u8]) -> Result<Option<Change>, Memory>
     requires { slice_index bytes.now 20 ≡ 4 }
-    ensures { IfOk result (λ read. IsReadOf bytes.now read) }
+    ensures { IfOk result (λ read. IsChangeReadOf bytes.now read) }
 {
     one_node();
     let Some(node) = TrunNode::decode(alloc, bytes)? else {

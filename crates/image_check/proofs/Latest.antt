@@ -22,7 +22,7 @@ use Rattle.sound_image.specs.Superblock.{HasSuperblock}
 use Rattle.sound_image.specs.Wrong.{IsFirstWrong, Wrong, differs}
 use Rattle.sound_image.specs.declared.breach.Breach.TheVariants.{Damaged}
 use Rattle.sound_image.specs.declared.rule.Rule.TheVariants as rules
-use Rattle.image_check.specs.FirstLaws.{not_before}
+use Rattle.image_check.specs.FirstLaws.{not_before_place}
 
 none_has : (before behind : List Found) (found : Found) → HasNone (before ++ found ∷ behind) → found.kind ≡ types.Master → ⊥
 none_has [] behind found none kind = let P : Found → Type 0 = λ f. f.kind ≢ types.Master in All-head P found behind none kind
@@ -80,7 +80,7 @@ misplaced_first node text contents geo latest wanted found f1 f2 is past = recor
       let first : Misplaced = record { wanted = wanted; found = found } in
       let same = one_misplaced own first (sym w.past ∙ sym (ap (λ (m : Master). first_past (addresses_of geo m)) master) ∙ past) in
       let misfit : other.misfit ≡ differs wanted found = ap (λ (x : Wrong). x.misfit) w.is ∙ ap (λ (m : Misplaced). differs m.wanted m.found) same in
-      not_before other at (omega (arith, lnum)) (λ s. omega (arith, offs)) (λ s t. misfit);
+      not_before_place other at (omega (arith, lnum)) (λ s. omega (arith, offs)) (λ s t. misfit);
 }
 
 -- an image of which nothing but the geometry and the latest master is told

@@ -199,8 +199,8 @@ first_of_both P Q (Some a) (Some b) h k =
 
 -- ---- LEBs one after another
 -- what stands behind a place, or is wrong there in the same way, doesn't come before it
-pub not_before : (other at : Wrong) → at.lnum ≤ other.lnum → (other.lnum ≡ at.lnum → at.offs ≤ other.offs) → (other.lnum ≡ at.lnum → other.offs ≡ at.offs → other.misfit ≡ at.misfit) → comes_before other at ≡ false
-not_before other at high later same = not_before_of other at (elim (cases_lt at.lnum other.lnum) [
+pub not_before_place : (other at : Wrong) → at.lnum ≤ other.lnum → (other.lnum ≡ at.lnum → at.offs ≤ other.offs) → (other.lnum ≡ at.lnum → other.offs ≡ at.offs → other.misfit ≡ at.misfit) → comes_before other at ≡ false
+not_before_place other at high later same = not_before_of other at (elim (cases_lt at.lnum other.lnum) [
   | inl less ↦ inl (inl less)
   | inr not ↦
       let l : at.lnum ≡ other.lnum = omega (arith, high, not) in
@@ -218,6 +218,6 @@ first_of_lebs IsWrong at is none here = record {
   wrong = is;
   least = λ other wrong. elim (cases_lt other.lnum at.lnum) [
     | inl less ↦ absurd (none other wrong less)
-    | inr high ↦ not_before other at high (λ same. (here other wrong same).0) (λ same. (here other wrong same).1)
+    | inr high ↦ not_before_place other at high (λ same. (here other wrong same).0) (λ same. (here other wrong same).1)
   ];
 }

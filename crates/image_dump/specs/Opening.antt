@@ -51,6 +51,6 @@ IsFaulty image (fault.Long len most) = (geo : RawGeometry) × HasGeometry image 
     × (len ≡ length image) × (most ≡ geo.leb_size * geo.leb_cnt)
 
 -- the volume of an image, and its geometry
-pub record IsOpened (image : List ℕ) (opened : Opened) : Type 0 where
+pub record IsImageOpened (image : List ℕ) (opened : Opened) : Type 0 where
   pub volume : HasVolume image (raw_of opened.geometry)
   pub loaded : IsLoaded (shape_of (raw_of opened.geometry)) image (state_of opened.volume)

@@ -7,7 +7,7 @@ ghost use Rattle.image_volume.specs.ImageVolume.{state_of};
 ghost use Rattle.media_sys.specs.SystemNode.{IsSuper};
 ghost use Rattle.media_sys.specs.declared.super_node.Super.{Super as ASuper};
 ghost use Rattle.sound_image.specs.Breaches.{super_field_of};
-ghost use Rattle.image_dump.specs.Opening.{IsOpened, IsFaulty, HasGeometry, HasVolume, shape_of, fault_of};
+ghost use Rattle.image_dump.specs.Opening.{IsImageOpened, IsFaulty, HasGeometry, HasVolume, shape_of, fault_of};
 
 use crate::fault::ImageFault;
 use image_volume::ImageVolume;
@@ -26,7 +26,7 @@ pub struct Opened<'a> {
 /// The volume of an image, whose shape its superblock tells. What else stands in it isn't looked at, and nothing is copied. Errors are
 /// those of `ImageFault`, the first that applies.
 pub fn open_image<'a>(alloc: Global, image: &'a [u8]) -> Result<Opened<'a>, ImageFault>
-    ensures opened { IfOk result (IsOpened image.now) }
+    ensures opened { IfOk result (IsImageOpened image.now) }
     ensures fault { IfErr result (IsFaulty image.now) }
 {
     let geometry = geometry_in(alloc, image)?;

@@ -11,12 +11,12 @@ use Rattle.fs_model.specs.Proper.{IsProper}
 use Rattle.media_leaf.specs.LeafNode.{LeafNode}
 use Rattle.image_maker.specs.declared.open_leb.OpenLeb.{OpenLeb}
 use Rattle.std.proofs.lemmas.List.{append-nil}
-use Rattle.image_maker.specs.Image.{shape_of}
+use Rattle.image_maker.specs.Image.{shape_for}
 use Rattle.image_maker.specs.Packed.{packed_after, packed_leaves}
 use Rattle.image_maker.specs.Places.{AreLaid, IsWrittenLeaf, numbered_leaves}
 use Rattle.image_maker.specs.declared.laid_leaves.LaidLeaves.{LaidLeaves}
 use Rattle.std.specs.List.{AllByRecursion}
-use Rattle.image_maker.specs.Laying.{IsLaid, IsReady, IsClosed, Lays}
+use Rattle.image_maker.specs.Laying.{AreLeafNodesLaid, AreLeavesReady, IsLeafLebClosed, LaysLeaves}
 use Rattle.image_maker.specs.Leaves.{live_leaves}
 use Rattle.image_maker.proofs.LayingLemmas.{AreLaid-close}
 use Rattle.image_maker.proofs.Grammar.{all_leaves, are_written}
@@ -33,7 +33,7 @@ pub record IsNew (raw : RawGeometry) (open_leb : OpenLeb) : Type 0 where
   pub leaves : open_leb.leaves.items ≡ []
   pub used : open_leb.used.items ≡ []
 
-fresh_laid : (raw : RawGeometry) (open_leb : OpenLeb) (state : VolumeState) → IsGeometry raw → IsBlank (shape_of raw) state → IsNew raw open_leb → IsLaid raw [] open_leb state.holds
+fresh_laid : (raw : RawGeometry) (open_leb : OpenLeb) (state : VolumeState) → IsGeometry raw → IsBlank (shape_for raw) state → IsNew raw open_leb → AreLeafNodesLaid raw [] open_leb state.holds
 fresh_laid raw open_leb state geo blank new = IsLaid-new raw open_leb state.holds geo.leb_cnt.0 blank.holds new.lnum new.sqnum new.bytes new.leaves new.used
 
 -- the leaves of a tree of few bytes are in the grammar, numbered from 1 on
@@ -58,7 +58,7 @@ new_packed raw leaves open_leb new =
 
 -- all leaves of a tree that fits can be laid
 pub tree_ready : (raw : RawGeometry) (tree : Tree) (open_leb : OpenLeb) (state : VolumeState) → IsGeometry raw → IsProper tree → tree_bytes tree ≤ 2 ^ 30
-    → length (packed_leaves raw.leb_size 0 (live_leaves tree)) < main_lebs raw → IsBlank (shape_of raw) state → IsNew raw open_leb → IsReady raw (live_leaves tree) open_leb state
+    → length (packed_leaves raw.leb_size 0 (live_leaves tree)) < main_lebs raw → IsBlank (shape_for raw) state → IsNew raw open_leb → AreLeavesReady raw (live_leaves tree) open_leb state
 tree_ready raw tree open_leb state geo proper few fits blank new =
     let sum = sum_by-live_leaves tree proper in
     let empty : length open_leb.bytes.items ≡ 0 = ap length new.bytes in
@@ -74,18 +74,18 @@ tree_ready raw tree open_leb state geo proper few fits blank new =
     }
 
 -- then the last LEB can be closed, and one is left behind it
-pub last_room : (raw : RawGeometry) (tree : Tree) (before after : OpenLeb) (was state : VolumeState) → IsReady raw (live_leaves tree) before was
-    → Lays raw (live_leaves tree) before was after state → after.lnum + 2 ≤ raw.leb_cnt
+pub last_room : (raw : RawGeometry) (tree : Tree) (before after : OpenLeb) (was state : VolumeState) → AreLeavesReady raw (live_leaves tree) before was
+    → LaysLeaves raw (live_leaves tree) before was after state → after.lnum + 2 ≤ raw.leb_cnt
 last_room raw tree before after was state ready l =
     let room : HasRoom raw after = done_room raw (live_leaves tree) before after was state ready l in
     room.lnum
 
 -- it has some bytes
-pub last_some : (raw : RawGeometry) (tree : Tree) (before after : OpenLeb) (was state : VolumeState) → IsProper tree → Lays raw (live_leaves tree) before was after state → 0 < length after.bytes.items
+pub last_some : (raw : RawGeometry) (tree : Tree) (before after : OpenLeb) (was state : VolumeState) → IsProper tree → LaysLeaves raw (live_leaves tree) before was after state → 0 < length after.bytes.items
 last_some raw tree before after was state proper l = let some = some_leaf tree proper in l.some (omega (arith, some))
 
 -- LEBs took leaves as long as they fit
-all_packed : (raw : RawGeometry) (tree : Tree) (before after : OpenLeb) (was state : VolumeState) → IsNew raw before → Lays raw (live_leaves tree) before was after state
+all_packed : (raw : RawGeometry) (tree : Tree) (before after : OpenLeb) (was state : VolumeState) → IsNew raw before → LaysLeaves raw (live_leaves tree) before was after state
     → after.used.items ++ length after.bytes.items ∷ [] ≡ packed_leaves raw.leb_size 0 (live_leaves tree)
 all_packed raw tree before after was state first l =
     ap (λ xs. after.used.items ++ xs) (sym (packed_none raw.leb_size (length after.bytes.items)))
@@ -95,9 +95,9 @@ all_packed raw tree before after was state first l =
 
 -- and all is laid
 pub last_closed : (raw : RawGeometry) (tree : Tree) (before after closed : OpenLeb) (was state : VolumeState) (new : ℕ → List ℕ) (laid : LaidLeaves) → IsGeometry raw → IsProper tree
-    → tree_bytes tree ≤ 2 ^ 30 → IsBlank (shape_of raw) was → IsNew raw before → after.lnum + 2 ≤ raw.leb_cnt
+    → tree_bytes tree ≤ 2 ^ 30 → IsBlank (shape_for raw) was → IsNew raw before → after.lnum + 2 ≤ raw.leb_cnt
     → laid.leaves.items ≡ closed.leaves.items → laid.used.items ≡ closed.used.items → laid.sqnum ≡ closed.sqnum
-    → Lays raw (live_leaves tree) before was after state → IsClosed raw after closed state.holds new → AreLaid raw (live_leaves tree) new laid
+    → LaysLeaves raw (live_leaves tree) before was after state → IsLeafLebClosed raw after closed state.holds new → AreLaid raw (live_leaves tree) new laid
 last_closed raw tree before after closed was state new laid geo proper few blank first room leaves used sqnum l closing =
     AreLaid-close raw (live_leaves tree) after closed state.holds new laid room (last_some raw tree before after was state proper l) l.fits (nodes_written tree proper few) (few_leaves tree proper few) leaves used sqnum (all_packed raw tree before after was state first l) closing
     (l.laid [] (fresh_laid raw before was geo blank first))

@@ -19,24 +19,24 @@ use Rattle.index_tree.specs.declared.leaf.Leaf.{Leaf}
 use Rattle.image_maker.specs.declared.laid_leaves.LaidLeaves.{LaidLeaves}
 use Rattle.image_maker.specs.declared.open_leb.OpenLeb.{OpenLeb}
 use Rattle.image_maker.specs.Image.{leb_text, to_unit, AreHeld, IsImage}
-use Rattle.image_maker.specs.Laying.{TakesLeaf, IsLaid, IsClosed}
+use Rattle.image_maker.specs.Laying.{TakesLeaf, AreLeafNodesLaid, IsLeafLebClosed}
 use Rattle.image_maker.specs.Packed.{packed_leaves}
 use Rattle.image_maker.specs.Places.{AreLaid, IsWrittenLeaf, numbered_leaves, numbered_text, placed_leaf, placed_rows, row_bytes}
 use Rattle.image_maker.proofs.Rows.{all-row, flat_texts, length_texts, numbered-append, placed-next, placed-none, texts_are}
-use Rattle.group_nodes.specs.Texts.{leaf_bytes, leaf_text}
+use Rattle.group_nodes.specs.Texts.{padded_leaf_bytes, leaf_text}
 
 abbrev leaf_there : Placed → Leaf
 leaf_there x = (kept_at x).leaf
 
 -- the buffer has the bytes of the last row
-pub buffer_bytes : (raw : RawGeometry) (leaves : List LeafNode) (open_leb : OpenLeb) (holds : ℕ → List ℕ) → (h : IsLaid raw leaves open_leb holds) → length open_leb.bytes.items ≡ row_bytes h.last
+pub buffer_bytes : (raw : RawGeometry) (leaves : List LeafNode) (open_leb : OpenLeb) (holds : ℕ → List ℕ) → (h : AreLeafNodesLaid raw leaves open_leb holds) → length open_leb.bytes.items ≡ row_bytes h.last
 buffer_bytes raw leaves open_leb holds h = ap length h.buffer ∙ length_texts h.last
 
 -- one node more
 pub IsLaid-append : (raw : RawGeometry) (leaves : List LeafNode) (leaf : LeafNode) (before after : OpenLeb) (holds : ℕ → List ℕ)
     → TakesLeaf leaf before after
-    → IsLaid raw leaves before holds
-    → IsLaid raw (leaves ++ leaf ∷ []) after holds
+    → AreLeafNodesLaid raw leaves before holds
+    → AreLeafNodesLaid raw (leaves ++ leaf ∷ []) after holds
 IsLaid-append raw leaves leaf before after holds new h =
     let text = leaf_text before.sqnum 0 leaf in
     let n : ℕ × LeafNode = (before.sqnum, leaf) in
@@ -48,7 +48,7 @@ IsLaid-append raw leaves leaf before after holds new h =
     ap (λ (k : ℕ). placed_leaf k (length before.bytes.items) n) h.place ∙ ap (λ (k : ℕ). placed_leaf (main_first raw + length h.rows) k n) (buffer_bytes raw leaves before holds h) in
     let rows = placed_rows (main_first raw) (h.rows ++ h.last ∷ []) in
     let e1 = length-append leaves (leaf ∷ []) in
-    let e2 = sum_by-append leaf_bytes leaves (leaf ∷ []) in
+    let e2 = sum_by-append padded_leaf_bytes leaves (leaf ∷ []) in
     let taken = h.taken in
     let len = new.len in
     let sqnum = new.sqnum in
@@ -76,7 +76,7 @@ below_next k n h = elim (cases_lt k n) [ inl below ↦ inl below | inr other ↦
 
 -- what the volume holds once the open LEB is written
 held-closed : (raw : RawGeometry) (parts : List (List (List ℕ))) (last : List (List ℕ)) (before after : OpenLeb) (old new : ℕ → List ℕ)
-    → before.lnum ≡ main_first raw + length parts → before.bytes.items ≡ concat last → AreHeld raw parts old → IsClosed raw before after old new → AreHeld raw (parts ++ last ∷ []) new
+    → before.lnum ≡ main_first raw + length parts → before.bytes.items ≡ concat last → AreHeld raw parts old → IsLeafLebClosed raw before after old new → AreHeld raw (parts ++ last ∷ []) new
 held-closed raw parts last before after old new place buffer held closed =
     let n = length parts in
     let more : length (parts ++ last ∷ []) ≡ n + 1 = length-append parts (last ∷ []) in
@@ -101,7 +101,7 @@ held-closed raw parts last before after old new place buffer held closed =
     }
 
 pub AreHeld-closed : (raw : RawGeometry) (leaves : List LeafNode) (before after : OpenLeb) (old new : ℕ → List ℕ)
-    → (h : IsLaid raw leaves before old) → IsClosed raw before after old new → AreHeld raw (map (map numbered_text) (h.rows ++ h.last ∷ [])) new
+    → (h : AreLeafNodesLaid raw leaves before old) → IsLeafLebClosed raw before after old new → AreHeld raw (map (map numbered_text) (h.rows ++ h.last ∷ [])) new
 AreHeld-closed raw leaves before after old new h closed =
     let place : before.lnum ≡ main_first raw + length (map (map numbered_text) h.rows) = h.place ∙ ap (λ (k : ℕ). main_first raw + k) (sym (length-map h.rows (map numbered_text))) in
     subst (λ parts. AreHeld raw parts new) (sym (map-append (map numbered_text) h.rows (h.last ∷ [])))
@@ -112,7 +112,7 @@ flat_map-close rows last =
     flat_map-append (λ row. row) rows (last ∷ []) ∙ ap (λ x. flat_map (λ row. row) rows ++ x) (append-nil last)
 
 used-close : (raw : RawGeometry) (leaves : List LeafNode) (before after : OpenLeb) (old new : ℕ → List ℕ)
-    → (h : IsLaid raw leaves before old) → IsClosed raw before after old new → after.used.items ≡ map row_bytes (h.rows ++ h.last ∷ [])
+    → (h : AreLeafNodesLaid raw leaves before old) → IsLeafLebClosed raw before after old new → after.used.items ≡ map row_bytes (h.rows ++ h.last ∷ [])
 used-close raw leaves before after old new h closed =
     closed.used
     ∙ ap (λ x. x ++ length before.bytes.items ∷ []) h.used
@@ -124,9 +124,9 @@ pub IsLaid-close : (raw : RawGeometry) (leaves : List LeafNode) (before after : 
     → raw.leb_size - leb_reserve raw ≤ length before.bytes.items
     → 0 < length before.bytes.items
     → length before.bytes.items ≤ raw.leb_size
-    → IsClosed raw before after old new
-    → IsLaid raw leaves before old
-    → IsLaid raw leaves after new
+    → IsLeafLebClosed raw before after old new
+    → AreLeafNodesLaid raw leaves before old
+    → AreLeafNodesLaid raw leaves after new
 IsLaid-close raw leaves before after old new full some most closed h =
     let beside = raw.leb_size - leb_reserve raw in
     let more : length (h.rows ++ h.last ∷ []) ≡ suc (length h.rows) = length-append h.rows (h.last ∷ []) ∙ add-one (length h.rows) in
@@ -160,8 +160,8 @@ pub AreLaid-close : (raw : RawGeometry) (leaves : List LeafNode) (before after :
     → laid.used.items ≡ after.used.items
     → laid.sqnum ≡ after.sqnum
     → before.used.items ++ length before.bytes.items ∷ [] ≡ packed_leaves raw.leb_size 0 leaves
-    → IsClosed raw before after old new
-    → IsLaid raw leaves before old
+    → IsLeafLebClosed raw before after old new
+    → AreLeafNodesLaid raw leaves before old
     → AreLaid raw leaves new laid
 AreLaid-close raw leaves before after old new laid inside some most nodes few places used sqnum packs closed h =
     let more : length (h.rows ++ h.last ∷ []) ≡ length h.rows + 1 = length-append h.rows (h.last ∷ []) in

@@ -13,13 +13,13 @@ use Rattle.fs_model.specs.declared.inode.Inode.{Inode}
 use Rattle.fs_model.specs.Directory.{by_hash, entries_in}
 use Rattle.fs_model.specs.Files.{Tree, Inodes}
 use Rattle.fs_model.specs.Proper.{IsProper, ascends}
-use Rattle.group_nodes.specs.Texts.{leaf_bytes}
+use Rattle.group_nodes.specs.Texts.{padded_leaf_bytes}
 use Rattle.fs_model.specs.Cover.{tree_bytes}
 use Rattle.ubifs_base.specs.declared.raw_geometry.RawGeometry.{RawGeometry}
 use Rattle.ubifs_base.specs.Geometry.{IsGeometry, leb_reserve}
 use Rattle.image_maker.proofs.Grammar.{CanBeWritten, short}
 use Rattle.plain_backing.specs.Covering.{leaf_count}
-use Rattle.image_maker.specs.Leaves.{block_leaf, entry_leaf, leaves_of, live_leaves}
+use Rattle.image_maker.specs.Leaves.{block_leaf, entry_leaf, leaf_nodes_of, live_leaves}
 use Rattle.image_maker.specs.Packed.{packed_leaves}
 use Rattle.image_maker.proofs.Packing.{packed_fits, packed_none, packed_over}
 use Rattle.image_maker.proofs.Sums.{part, part_le, part_step, sum_by-by_hash}
@@ -34,7 +34,7 @@ ones {X} (x ∷ xs) =
     omega (arith, more, sum)
 
 count_of : (tree : Tree) (e : ℕ × Inode)
-    → length (leaves_of tree e) ≤ 1 + (part (λ stored. 1) (λ stored. stored.0.0 == e.0) tree.blocks + part (λ entry. 1) (λ n. n.dir == e.0) (values_of tree.entries))
+    → length (leaf_nodes_of tree e) ≤ 1 + (part (λ stored. 1) (λ stored. stored.0.0 == e.0) tree.blocks + part (λ entry. 1) (λ n. n.dir == e.0) (values_of tree.entries))
 count_of tree e =
     let own = filter (λ stored. stored.0.0 == e.0) tree.blocks in
     let blocks = map block_leaf own in
@@ -48,12 +48,12 @@ count_of tree e =
     omega (arith, both, b, n, sum_b, sum_n, less)
 
 count_from : (tree : Tree) (inodes : Inodes) (a : ℕ) → ascends nat_cmp (a ∷ keys_of inodes) ≡ true
-    → length (flat_map (leaves_of tree) inodes) ≤ length inodes + (part (λ stored. 1) (λ stored. nat_lt a stored.0.0) tree.blocks + part (λ entry. 1) (λ n. nat_lt a n.dir) (values_of tree.entries))
+    → length (flat_map (leaf_nodes_of tree) inodes) ≤ length inodes + (part (λ stored. 1) (λ stored. nat_lt a stored.0.0) tree.blocks + part (λ entry. 1) (λ n. nat_lt a n.dir) (values_of tree.entries))
 count_from tree [] a up = omega arith
 count_from tree (e ∷ inodes) a up =
     let less = less_of a e.0 (and_first (is_lt (nat_cmp a e.0)) (ascends nat_cmp (e.0 ∷ keys_of inodes)) up) in
     let more = count_from tree inodes e.0 (and_second (is_lt (nat_cmp a e.0)) (ascends nat_cmp (e.0 ∷ keys_of inodes)) up) in
-    let all = length-append (leaves_of tree e) (flat_map (leaves_of tree) inodes) in
+    let all = length-append (leaf_nodes_of tree e) (flat_map (leaf_nodes_of tree) inodes) in
     let here = count_of tree e in
     let b = part_step (λ stored. 1) (λ stored. stored.0.0) a e.0 less tree.blocks in
     let n = part_step (λ entry. 1) (λ n. n.dir) a e.0 less (values_of tree.entries) in
@@ -71,29 +71,29 @@ length-live_leaves tree p =
     omega (arith, all, b, n, blocks, entries, values)
 
 -- Leaves of at most so many bytes: each LEB but the last takes more than it has beside these.
-pub packed_few : (size beside most taken : ℕ) (leaves : List LeafNode) → beside + most ≤ size → AllByRecursion (λ leaf. leaf_bytes leaf ≤ most) leaves
-    → length (packed_leaves size taken leaves) * beside ≤ taken + sum_by leaf_bytes leaves + beside
+pub packed_few : (size beside most taken : ℕ) (leaves : List LeafNode) → beside + most ≤ size → AllByRecursion (λ leaf. padded_leaf_bytes leaf ≤ most) leaves
+    → length (packed_leaves size taken leaves) * beside ≤ taken + sum_by padded_leaf_bytes leaves + beside
 packed_few size beside most taken [] fit short =
     let one : length (packed_leaves size taken []) * beside ≡ 1 * beside = ap (λ (xs : List ℕ). length xs * beside) (packed_none size taken) in
     omega (arith, one)
 packed_few size beside most taken (leaf ∷ leaves) fit short =
-    let sum = sum_by-cons leaf_bytes leaf leaves in
-    elim (cases_lt size (taken + leaf_bytes leaf)) [
+    let sum = sum_by-cons padded_leaf_bytes leaf leaves in
+    elim (cases_lt size (taken + padded_leaf_bytes leaf)) [
       | inl over ↦
-          let more = packed_few size beside most (leaf_bytes leaf) leaves fit short.1 in
-          let all : length (packed_leaves size taken (leaf ∷ leaves)) * beside ≡ suc (length (packed_leaves size (leaf_bytes leaf) leaves)) * beside =
+          let more = packed_few size beside most (padded_leaf_bytes leaf) leaves fit short.1 in
+          let all : length (packed_leaves size taken (leaf ∷ leaves)) * beside ≡ suc (length (packed_leaves size (padded_leaf_bytes leaf) leaves)) * beside =
           ap (λ (xs : List ℕ). length xs * beside) (packed_over size taken leaf leaves over) in
-          let step = suc-mul (length (packed_leaves size (leaf_bytes leaf) leaves)) beside in
+          let step = suc-mul (length (packed_leaves size (padded_leaf_bytes leaf) leaves)) beside in
           let longest = short.0 in
           omega (arith, more, all, step, sum, over, longest, fit)
       | inr fits ↦
-          let more = packed_few size beside most (taken + leaf_bytes leaf) leaves fit short.1 in
-          let all : length (packed_leaves size taken (leaf ∷ leaves)) * beside ≡ length (packed_leaves size (taken + leaf_bytes leaf) leaves) * beside =
+          let more = packed_few size beside most (taken + padded_leaf_bytes leaf) leaves fit short.1 in
+          let all : length (packed_leaves size taken (leaf ∷ leaves)) * beside ≡ length (packed_leaves size (taken + padded_leaf_bytes leaf) leaves) * beside =
           ap (λ (xs : List ℕ). length xs * beside) (packed_fits size taken leaf leaves (omega (arith, fits))) in
           omega (arith, more, all, sum)
     ]
 
-all_short : (leaves : List LeafNode) → AllByRecursion CanBeWritten leaves → AllByRecursion (λ leaf. leaf_bytes leaf ≤ 4256) leaves
+all_short : (leaves : List LeafNode) → AllByRecursion CanBeWritten leaves → AllByRecursion (λ leaf. padded_leaf_bytes leaf ≤ 4256) leaves
 all_short [] h = tt
 all_short (leaf ∷ leaves) h = (let few = short leaf h.0.0 in omega (arith, few), all_short leaves h.1)
 

@@ -8,9 +8,9 @@ use Rattle.ubifs_base.specs.declared.raw_geometry.RawGeometry.{RawGeometry}
 use Rattle.ubifs_base.specs.Areas.{main_lebs}
 use Rattle.ubi_volume.specs.Volume.{VolumeState}
 use Rattle.media_leaf.specs.LeafNode.{LeafNode, IsLeaf}
-use Rattle.group_nodes.specs.Texts.{leaf_bytes}
+use Rattle.group_nodes.specs.Texts.{padded_leaf_bytes}
 use Rattle.image_maker.specs.declared.open_leb.OpenLeb.{OpenLeb}
-use Rattle.image_maker.specs.Laying.{IsLaid, IsReady, Lays, IsUnderWay}
+use Rattle.image_maker.specs.Laying.{AreLeafNodesLaid, AreLeavesReady, LaysLeaves, IsUnderWay}
 use Rattle.image_maker.specs.Packed.{packed_after}
 use Rattle.image_maker.proofs.Packing.{packed_after_grows}
 use Rattle.image_maker.proofs.Room.{HasRoom, room}
@@ -24,28 +24,28 @@ all_back [] ys h = h
 all_back (x ∷ xs) ys h = all_back xs ys h.1
 
 -- where leaves are ready there is a LEB for them, and one behind it
-pub ready_room : (raw : RawGeometry) (next : List LeafNode) (open_leb : OpenLeb) (state : VolumeState) → IsReady raw next open_leb state → HasRoom raw open_leb
+pub ready_room : (raw : RawGeometry) (next : List LeafNode) (open_leb : OpenLeb) (state : VolumeState) → AreLeavesReady raw next open_leb state → HasRoom raw open_leb
 ready_room raw next open_leb state r = let few = r.few in room raw r.done next open_leb state.holds r.room (omega (arith, few)) r.laid
 
 -- the LEBs that are taken once leaves are laid are those that they were to take
-after_laid : (raw : RawGeometry) (first more : List LeafNode) (before after : OpenLeb) (was state : VolumeState) → Lays raw first before was after state
+after_laid : (raw : RawGeometry) (first more : List LeafNode) (before after : OpenLeb) (was state : VolumeState) → LaysLeaves raw first before was after state
     → length (packed_after raw before (first ++ more)) < main_lebs raw → length (packed_after raw after more) < main_lebs raw
 after_laid raw first more before after was state l fits = let same = ap length (l.packed more) in omega (arith, same, fits)
 
 -- and after all leaves too
-pub done_room : (raw : RawGeometry) (next : List LeafNode) (before after : OpenLeb) (was state : VolumeState) → IsReady raw next before was → Lays raw next before was after state → HasRoom raw after
+pub done_room : (raw : RawGeometry) (next : List LeafNode) (before after : OpenLeb) (was state : VolumeState) → AreLeavesReady raw next before was → LaysLeaves raw next before was after state → HasRoom raw after
 done_room raw next before after was state r l =
     let few = r.few in
-    let sum = sum_by-append leaf_bytes r.done next in
+    let sum = sum_by-append padded_leaf_bytes r.done next in
     let all : length (packed_after raw before (next ++ [])) < main_lebs raw = subst (λ leaves. length (packed_after raw before leaves) < main_lebs raw) (sym (append-nil next)) r.room in
     room raw (r.done ++ next) [] after state.holds (after_laid raw next [] before after was state l all) (omega (arith, few, sum)) (l.laid r.done r.laid)
 
 -- the first of leaves that are ready are ready
-pub ready_first : (raw : RawGeometry) (first more : List LeafNode) (open_leb : OpenLeb) (state : VolumeState) → IsReady raw (first ++ more) open_leb state → IsReady raw first open_leb state
+pub ready_first : (raw : RawGeometry) (first more : List LeafNode) (open_leb : OpenLeb) (state : VolumeState) → AreLeavesReady raw (first ++ more) open_leb state → AreLeavesReady raw first open_leb state
 ready_first raw first more open_leb state r =
     let few = r.few in
     let room = r.room in
-    let sum = sum_by-append leaf_bytes first more in
+    let sum = sum_by-append padded_leaf_bytes first more in
     let grows = packed_after_grows raw open_leb first more in
     record {
       nodes = all_front first more r.nodes;
@@ -59,11 +59,11 @@ ready_first raw first more open_leb state r =
 
 -- and the others, once these are laid
 pub ready_next : (raw : RawGeometry) (first more : List LeafNode) (before after : OpenLeb) (was state : VolumeState)
-    → IsReady raw (first ++ more) before was → Lays raw first before was after state → IsReady raw more after state
+    → AreLeavesReady raw (first ++ more) before was → LaysLeaves raw first before was after state → AreLeavesReady raw more after state
 ready_next raw first more before after was state r l =
     let few = r.few in
-    let sum = sum_by-append leaf_bytes first more in
-    let laid = sum_by-append leaf_bytes r.done first in
+    let sum = sum_by-append padded_leaf_bytes first more in
+    let laid = sum_by-append padded_leaf_bytes r.done first in
     record {
       nodes = all_back first more r.nodes;
       done = r.done ++ first;
@@ -75,10 +75,10 @@ ready_next raw first more before after was state r l =
     }
 
 -- nothing is laid
-pub lays_none : (raw : RawGeometry) (next : List LeafNode) (open_leb : OpenLeb) (state : VolumeState) → IsReady raw next open_leb state → Lays raw [] open_leb state open_leb state
+pub lays_none : (raw : RawGeometry) (next : List LeafNode) (open_leb : OpenLeb) (state : VolumeState) → AreLeavesReady raw next open_leb state → LaysLeaves raw [] open_leb state open_leb state
 lays_none raw next open_leb state r =
     record {
-      laid = λ done h. subst (λ leaves. IsLaid raw leaves open_leb state.holds) (sym (append-nil done)) h;
+      laid = λ done h. subst (λ leaves. AreLeafNodesLaid raw leaves open_leb state.holds) (sym (append-nil done)) h;
       packed = λ leaves. refl;
       some = λ h. omega (arith, h);
       fits = r.fits;
@@ -86,10 +86,10 @@ lays_none raw next open_leb state r =
     }
 
 -- leaves are laid, and more behind them
-pub lays_more : (raw : RawGeometry) (first more : List LeafNode) (a b c : OpenLeb) (p q r : VolumeState) → Lays raw first a p b q → Lays raw more b q c r → Lays raw (first ++ more) a p c r
+pub lays_more : (raw : RawGeometry) (first more : List LeafNode) (a b c : OpenLeb) (p q r : VolumeState) → LaysLeaves raw first a p b q → LaysLeaves raw more b q c r → LaysLeaves raw (first ++ more) a p c r
 lays_more raw first more a b c p q r l m =
     record {
-      laid = λ done h. subst (λ leaves. IsLaid raw leaves c r.holds) (append_assoc done first more) (m.laid (done ++ first) (l.laid done h));
+      laid = λ done h. subst (λ leaves. AreLeafNodesLaid raw leaves c r.holds) (append_assoc done first more) (m.laid (done ++ first) (l.laid done h));
       packed = λ leaves. m.packed leaves ∙ l.packed (more ++ leaves) ∙ ap (packed_after raw a) (sym (append_assoc first more leaves));
       some = λ h. elim (cases_lt 0 (length more)) [
         | inl last ↦ m.some (omega (arith, last))
@@ -103,20 +103,20 @@ lays_more raw first more a b c p q r l m =
     }
 
 -- ---- leaves that are under way
-pub begins : (raw : RawGeometry) (all rest : List LeafNode) (open_leb : OpenLeb) (state : VolumeState) → IsReady raw all open_leb state → rest ≡ all → IsUnderWay raw all rest open_leb state open_leb state
+pub begins : (raw : RawGeometry) (all rest : List LeafNode) (open_leb : OpenLeb) (state : VolumeState) → AreLeavesReady raw all open_leb state → rest ≡ all → IsUnderWay raw all rest open_leb state open_leb state
 begins raw all rest open_leb state r is = record { done = []; parts = is; lays = lays_none raw all open_leb state r }
 
 -- the next are ready
 pub next_ready : (raw : RawGeometry) (all rest next more : List LeafNode) (before open_leb : OpenLeb) (was state : VolumeState)
-    → IsReady raw all before was → rest ≡ next ++ more → IsUnderWay raw all rest before was open_leb state → IsReady raw next open_leb state
+    → AreLeavesReady raw all before was → rest ≡ next ++ more → IsUnderWay raw all rest before was open_leb state → AreLeavesReady raw next open_leb state
 next_ready raw all rest next more before open_leb was state r is u =
     let whole : all ≡ u.done ++ (next ++ more) = sym u.parts ∙ ap (λ x. u.done ++ x) is in
-    let ready = ready_next raw u.done (next ++ more) before open_leb was state (subst (λ leaves. IsReady raw leaves before was) whole r) u.lays in
+    let ready = ready_next raw u.done (next ++ more) before open_leb was state (subst (λ leaves. AreLeavesReady raw leaves before was) whole r) u.lays in
     ready_first raw next more open_leb state ready
 
 -- they are laid
 pub next_laid : (raw : RawGeometry) (all rest next more : List LeafNode) (before open_leb after : OpenLeb) (was state new : VolumeState)
-    → rest ≡ next ++ more → IsUnderWay raw all rest before was open_leb state → Lays raw next open_leb state after new → IsUnderWay raw all more before was after new
+    → rest ≡ next ++ more → IsUnderWay raw all rest before was open_leb state → LaysLeaves raw next open_leb state after new → IsUnderWay raw all more before was after new
 next_laid raw all rest next more before open_leb after was state new is u l =
     record {
       done = u.done ++ next;
@@ -126,24 +126,24 @@ next_laid raw all rest next more before open_leb after was state new is u l =
 
 -- none is left
 pub all_laid : (raw : RawGeometry) (all rest : List LeafNode) (before open_leb : OpenLeb) (was state : VolumeState)
-    → rest ≡ [] → IsUnderWay raw all rest before was open_leb state → Lays raw all before was open_leb state
+    → rest ≡ [] → IsUnderWay raw all rest before was open_leb state → LaysLeaves raw all before was open_leb state
 all_laid raw all rest before open_leb was state none u =
     let whole : u.done ≡ all = sym (append-nil u.done) ∙ ap (λ x. u.done ++ x) (sym none) ∙ u.parts in
-    subst (λ leaves. Lays raw leaves before was open_leb state) whole u.lays
+    subst (λ leaves. LaysLeaves raw leaves before was open_leb state) whole u.lays
 
 -- ---- a node, then some more, and then the last
 pub second_ready : (raw : RawGeometry) (node : LeafNode) (some last : List LeafNode) (a b : OpenLeb) (p q : VolumeState)
-    → IsReady raw (node ∷ (some ++ last)) a p → Lays raw (node ∷ []) a p b q → IsReady raw some b q
+    → AreLeavesReady raw (node ∷ (some ++ last)) a p → LaysLeaves raw (node ∷ []) a p b q → AreLeavesReady raw some b q
 second_ready raw node some last a b p q r l = ready_first raw some last b q (ready_next raw (node ∷ []) (some ++ last) a b p q r l)
 
 pub third_ready : (raw : RawGeometry) (node : LeafNode) (some last : List LeafNode) (a b c : OpenLeb) (p q s : VolumeState)
-    → IsReady raw (node ∷ (some ++ last)) a p → Lays raw (node ∷ []) a p b q → Lays raw some b q c s → IsReady raw last c s
+    → AreLeavesReady raw (node ∷ (some ++ last)) a p → LaysLeaves raw (node ∷ []) a p b q → LaysLeaves raw some b q c s → AreLeavesReady raw last c s
 third_ready raw node some last a b c p q s r l m = ready_next raw some last b c q s (ready_next raw (node ∷ []) (some ++ last) a b p q r l) m
 
 pub three_laid : (raw : RawGeometry) (node : LeafNode) (some last : List LeafNode) (a b c d : OpenLeb) (p q s t : VolumeState)
-    → Lays raw (node ∷ []) a p b q → Lays raw some b q c s → Lays raw last c s d t → Lays raw (node ∷ (some ++ last)) a p d t
+    → LaysLeaves raw (node ∷ []) a p b q → LaysLeaves raw some b q c s → LaysLeaves raw last c s d t → LaysLeaves raw (node ∷ (some ++ last)) a p d t
 three_laid raw node some last a b c d p q s t l m n = lays_more raw (node ∷ []) (some ++ last) a b d p q t l (lays_more raw some last b c d q s t m n)
 
 -- a node is laid, under another name
-pub same_laid : (raw : RawGeometry) (node other : LeafNode) (a b : OpenLeb) (p q : VolumeState) → node ≡ other → Lays raw (node ∷ []) a p b q → Lays raw (other ∷ []) a p b q
-same_laid raw node other a b p q same l = subst (λ x. Lays raw (x ∷ []) a p b q) same l
+pub same_laid : (raw : RawGeometry) (node other : LeafNode) (a b : OpenLeb) (p q : VolumeState) → node ≡ other → LaysLeaves raw (node ∷ []) a p b q → LaysLeaves raw (other ∷ []) a p b q
+same_laid raw node other a b p q same l = subst (λ x. LaysLeaves raw (x ∷ []) a p b q) same l

@@ -8,24 +8,24 @@ use Rattle.ubifs_base.specs.Areas.{main_first, main_lebs}
 use Rattle.ubi_volume.specs.Volume.{filled}
 use Rattle.media_leaf.specs.LeafNode.{LeafNode, inode, block, entry, truncation}
 use Rattle.image_maker.specs.declared.open_leb.OpenLeb.{OpenLeb}
-use Rattle.image_maker.specs.Laying.{IsLaid}
+use Rattle.image_maker.specs.Laying.{AreLeafNodesLaid}
 use Rattle.image_maker.specs.Packed.{packed_after}
 use Rattle.image_maker.specs.Places.{row_bytes}
 use Rattle.image_maker.proofs.Packing.{packed_after_some}
-use Rattle.group_nodes.specs.Texts.{leaf_bytes}
+use Rattle.group_nodes.specs.Texts.{padded_leaf_bytes}
 
-leaf_bytes-pos : (leaf : LeafNode) → 1 ≤ leaf_bytes leaf
+leaf_bytes-pos : (leaf : LeafNode) → 1 ≤ padded_leaf_bytes leaf
 leaf_bytes-pos (inode node) = omega arith
 leaf_bytes-pos (block node) = omega arith
 leaf_bytes-pos (entry node) = omega arith
 leaf_bytes-pos (truncation node) = omega arith
 
-pub length-le-sum_by : (leaves : List LeafNode) → length leaves ≤ sum_by leaf_bytes leaves
+pub length-le-sum_by : (leaves : List LeafNode) → length leaves ≤ sum_by padded_leaf_bytes leaves
 length-le-sum_by [] = omega arith
 length-le-sum_by (leaf ∷ leaves) =
     let one = leaf_bytes-pos leaf in
     let more = length-le-sum_by leaves in
-    let sum = sum_by-cons leaf_bytes leaf leaves in
+    let sum = sum_by-cons padded_leaf_bytes leaf leaves in
     omega (arith, one, more, sum)
 
 -- where the open LEB and the next sequence number are
@@ -36,8 +36,8 @@ pub record HasRoom (raw : RawGeometry) (open_leb : OpenLeb) : Type 0 where
 -- the open LEB is among those that are taken once more leaves are laid too, so one is left behind it
 pub room : (raw : RawGeometry) (leaves next : List LeafNode) (open_leb : OpenLeb) (holds : ℕ → List ℕ)
     → length (packed_after raw open_leb next) < main_lebs raw
-    → sum_by leaf_bytes leaves ≤ 2 ^ 30
-    → IsLaid raw leaves open_leb holds
+    → sum_by padded_leaf_bytes leaves ≤ 2 ^ 30
+    → AreLeafNodesLaid raw leaves open_leb holds
     → HasRoom raw open_leb
 room raw leaves next open_leb holds fits few h =
     let rows : length open_leb.used.items ≡ length h.rows = ap length h.used ∙ length-map h.rows row_bytes in
@@ -59,7 +59,7 @@ pub IsLaid-new : (raw : RawGeometry) (open_leb : OpenLeb) (holds : ℕ → List 
     → open_leb.bytes.items ≡ []
     → open_leb.leaves.items ≡ []
     → open_leb.used.items ≡ []
-    → IsLaid raw [] open_leb holds
+    → AreLeafNodesLaid raw [] open_leb holds
 IsLaid-new raw open_leb holds inside blank lnum sqnum bytes leaves used =
     let empty : length open_leb.bytes.items ≡ 0 = ap length bytes in
     record {

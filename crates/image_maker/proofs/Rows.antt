@@ -6,7 +6,7 @@ use Rattle.std.proofs.lemmas.List.Sums.{sum_by-append, sum_by-cons}
 use Rattle.ubifs_base.specs.declared.raw_geometry.RawGeometry.{RawGeometry}
 use Rattle.media_leaf.specs.LeafNode.{LeafNode}
 use Rattle.group_nodes.specs.TextLaws.{length-leaf_text}
-use Rattle.group_nodes.specs.Texts.{leaf_bytes}
+use Rattle.group_nodes.specs.Texts.{padded_leaf_bytes}
 use Rattle.image_maker.specs.Image.{leaf_texts}
 use Rattle.image_maker.specs.Places.{FitsLeb, numbered_leaves, numbered_text, placed_leaf, placed_row, placed_rows, row_bytes}
 
@@ -17,17 +17,17 @@ numbered-append n (first ∷ leaves) leaf =
     let e : suc n + length leaves ≡ n + suc (length leaves) = omega arith in
     ap (λ xs. (n, first) ∷ xs) (numbered-append (suc n) leaves leaf ∙ ap (λ (k : ℕ). numbered_leaves (suc n) leaves ++ (k, leaf) ∷ []) e)
 
-pub bytes-append : (row : List (ℕ × LeafNode)) (n : ℕ × LeafNode) → row_bytes (row ++ n ∷ []) ≡ row_bytes row + leaf_bytes n.1
-bytes-append row n = let e = sum_by-append (λ (n : ℕ × LeafNode). leaf_bytes n.1) row (n ∷ []) in omega (arith, e)
+pub bytes-append : (row : List (ℕ × LeafNode)) (n : ℕ × LeafNode) → row_bytes (row ++ n ∷ []) ≡ row_bytes row + padded_leaf_bytes n.1
+bytes-append row n = let e = sum_by-append (λ (n : ℕ × LeafNode). padded_leaf_bytes n.1) row (n ∷ []) in omega (arith, e)
 
 pub placed-append : (lnum offs : ℕ) (row : List (ℕ × LeafNode)) (n : ℕ × LeafNode)
     → placed_row lnum offs (row ++ n ∷ []) ≡ placed_row lnum offs row ++ placed_leaf lnum (offs + row_bytes row) n ∷ []
 placed-append lnum offs [] n = let e : offs ≡ offs + 0 = omega arith in ap (λ (k : ℕ). placed_leaf lnum k n ∷ []) e
 placed-append lnum offs (first ∷ row) n =
-    let sum = sum_by-cons (λ (n : ℕ × LeafNode). leaf_bytes n.1) first row in
-    let e : offs + leaf_bytes first.1 + row_bytes row ≡ offs + row_bytes (first ∷ row) = omega (arith, sum) in
+    let sum = sum_by-cons (λ (n : ℕ × LeafNode). padded_leaf_bytes n.1) first row in
+    let e : offs + padded_leaf_bytes first.1 + row_bytes row ≡ offs + row_bytes (first ∷ row) = omega (arith, sum) in
     ap (λ xs. placed_leaf lnum offs first ∷ xs)
-    (placed-append lnum (offs + leaf_bytes first.1) row n ∙ ap (λ (k : ℕ). placed_row lnum (offs + leaf_bytes first.1) row ++ placed_leaf lnum k n ∷ []) e)
+    (placed-append lnum (offs + padded_leaf_bytes first.1) row n ∙ ap (λ (k : ℕ). placed_row lnum (offs + padded_leaf_bytes first.1) row ++ placed_leaf lnum k n ∷ []) e)
 
 -- ---- one row more
 pub placed-row : (lnum : ℕ) (rows : List (List (ℕ × LeafNode))) (row : List (ℕ × LeafNode))
@@ -72,6 +72,6 @@ length_texts [] = refl
 length_texts (n ∷ row) =
     let here = length-leaf_text n.0 0 n.1 in
     let more = length_texts row in
-    let sum = sum_by-cons (λ (n : ℕ × LeafNode). leaf_bytes n.1) n row in
+    let sum = sum_by-cons (λ (n : ℕ × LeafNode). padded_leaf_bytes n.1) n row in
     let both = length-append (numbered_text n) (concat (map numbered_text row)) in
     omega (arith, here, more, sum, both)

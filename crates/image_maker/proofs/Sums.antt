@@ -15,7 +15,7 @@ use Rattle.fs_model.specs.Cover.{block_bytes, entry_bytes}
 use Rattle.fs_model.specs.Directory.{by_hash}
 use Rattle.fs_model.specs.Files.{Blocks, name_cmp}
 use Rattle.fs_model.specs.Path.{is_dir}
-use Rattle.group_nodes.specs.Texts.{leaf_bytes}
+use Rattle.group_nodes.specs.Texts.{padded_leaf_bytes}
 use Rattle.image_maker.specs.Leaves.{block_leaf, entry_leaf}
 
 -- ---- rows by the number that they belong to
@@ -78,10 +78,10 @@ part_step weight key a i h (r ∷ rows) =
 abbrev pub block_weight : (ℕ × ℕ) × List ℕ → ℕ
 block_weight stored = block_bytes stored.1
 
-pub sum_by-block_leaves : (blocks : Blocks) → sum_by leaf_bytes (map block_leaf blocks) ≡ sum_by block_weight blocks
+pub sum_by-block_leaves : (blocks : Blocks) → sum_by padded_leaf_bytes (map block_leaf blocks) ≡ sum_by block_weight blocks
 sum_by-block_leaves [] = refl
 sum_by-block_leaves (b ∷ blocks) =
-    sum_by-cons leaf_bytes (block_leaf b) (map block_leaf blocks)
+    sum_by-cons padded_leaf_bytes (block_leaf b) (map block_leaf blocks)
     ∙ ap (λ n. block_bytes b.1 + n) (sum_by-block_leaves blocks)
     ∙ sym (sum_by-cons block_weight b blocks)
 
@@ -93,10 +93,10 @@ sum_by-blocks (b ∷ blocks) =
     ∙ sym (sum_by-cons block_weight b blocks)
 
 -- ---- entries
-pub sum_by-entry_leaves : (entries : List Entry) → sum_by leaf_bytes (map entry_leaf entries) ≡ sum_by entry_bytes entries
+pub sum_by-entry_leaves : (entries : List Entry) → sum_by padded_leaf_bytes (map entry_leaf entries) ≡ sum_by entry_bytes entries
 sum_by-entry_leaves [] = refl
 sum_by-entry_leaves (e ∷ entries) =
-    sum_by-cons leaf_bytes (entry_leaf e) (map entry_leaf entries)
+    sum_by-cons padded_leaf_bytes (entry_leaf e) (map entry_leaf entries)
     ∙ ap (λ n. entry_bytes e + n) (sum_by-entry_leaves entries)
     ∙ sym (sum_by-cons entry_bytes e entries)
 

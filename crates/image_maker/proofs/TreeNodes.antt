@@ -22,9 +22,9 @@ use Rattle.fs_model.specs.Path.{is_dir}
 use Rattle.fs_model.specs.Files.{Tree, Inodes, Blocks, Entries, name_cmp}
 use Rattle.fs_model.specs.Proper.{IsProper, ascends, has_kind, is_inode_node, is_block_node, is_entry_node}
 use Rattle.image_maker.specs.Laying.{HavePlainModes}
-use Rattle.group_nodes.specs.NodeLaws.{numbered, plain_mode}
-use Rattle.group_nodes.specs.Texts.{leaf_bytes}
-use Rattle.image_maker.specs.Leaves.{stored_size, inode_leaf, block_leaf, entry_leaf, leaves_of, live_leaves}
+use Rattle.group_nodes.specs.NodeLaws.{inode_numbered, plain_mode}
+use Rattle.group_nodes.specs.Texts.{padded_leaf_bytes}
+use Rattle.image_maker.specs.Leaves.{stored_size, inode_leaf, block_leaf, entry_leaf, leaf_nodes_of, live_leaves}
 use Rattle.image_maker.proofs.Grammar.{CanBeWritten, block_written, entry_written, inode_written, nlink_fits, size_fits}
 use Rattle.image_maker.proofs.Sums.{count_le-sum_by, part, part_le, part_step, block_weight, sum_by-block_leaves, sum_by-blocks, sum_by-entry_leaves, sum_by-by_hash}
 
@@ -105,7 +105,7 @@ size_stored tree e few h = by (is_dir e.1.kind)
 
 -- the leaves of a proper tree can be written, if it takes few bytes
 inodes_are : (tree : Tree) (inodes : Inodes) → tree_bytes tree ≤ 2 ^ 30 → IsTrue (list_all is_block_node tree.blocks) → IsTrue (list_all is_entry_node tree.entries) → IsTrue (list_all is_inode_node inodes)
-    → AllByRecursion CanBeWritten (flat_map (leaves_of tree) inodes)
+    → AllByRecursion CanBeWritten (flat_map (leaf_nodes_of tree) inodes)
 inodes_are tree [] few b n h = tt
 inodes_are tree (e ∷ inodes) few b n h =
     let blocks = map block_leaf (filter (λ stored. stored.0.0 == e.0) tree.blocks) in
@@ -113,7 +113,7 @@ inodes_are tree (e ∷ inodes) few b n h =
     let first : AllByRecursion CanBeWritten (blocks ++ entries) = all_append blocks entries (blocks_are e.0 tree.blocks b) (leaves_are (by_hash (entries_in tree e.0)) (sorted_are [] (entries_in tree e.0) tt (entries_are e.0 tree.entries n))) in
     let is = and_first (is_inode_node e) (list_all is_inode_node inodes) h in
     let node : CanBeWritten (inode_leaf tree e.0 e.1) = inode_written e (stored_size tree e.0 e.1) (links_of tree e.0 e.1) is (size_stored tree e few is) (links_fit tree e few is) in
-    all_append (leaves_of tree e) (flat_map (leaves_of tree) inodes) (node, first) (inodes_are tree inodes few b n (and_second (is_inode_node e) (list_all is_inode_node inodes) h))
+    all_append (leaf_nodes_of tree e) (flat_map (leaf_nodes_of tree) inodes) (node, first) (inodes_are tree inodes few b n (and_second (is_inode_node e) (list_all is_inode_node inodes) h))
 
 pub live_leaves-are : (tree : Tree) → IsProper tree → tree_bytes tree ≤ 2 ^ 30 → AllByRecursion CanBeWritten (live_leaves tree)
 live_leaves-are tree p few = inodes_are tree tree.inodes few p.block_nodes p.entry_nodes p.inode_nodes
@@ -129,7 +129,7 @@ plain_modes tree p = modes_of tree.inodes p.inode_nodes
 pub some_leaf : (tree : Tree) → IsProper tree → 0 < length (live_leaves tree)
 some_leaf tree p = by tree.inodes refl
   where
-    by : (inodes : Inodes) → tree.inodes ≡ inodes → 0 < length (flat_map (leaves_of tree) inodes)
+    by : (inodes : Inodes) → tree.inodes ≡ inodes → 0 < length (flat_map (leaf_nodes_of tree) inodes)
     by [] none = absurd (false≢true (ap (λ xs. has_kind (record tree { inodes = xs }) 1 Dir) (sym none) ∙ p.root))
     by (e ∷ inodes) is = omega arith
 
@@ -143,24 +143,24 @@ entries_past tree a = part entry_bytes (λ e. nat_lt a e.dir) (values_of tree.en
 abbrev blocks_past : Tree → ℕ → ℕ
 blocks_past tree a = part block_weight (λ stored. nat_lt a stored.0.0) tree.blocks
 
-sum_of : (tree : Tree) (e : ℕ × Inode) → sum_by leaf_bytes (leaves_of tree e) ≤ inode_bytes e.1 + (part block_weight (λ stored. stored.0.0 == e.0) tree.blocks + part entry_bytes (λ n. n.dir == e.0) (values_of tree.entries))
+sum_of : (tree : Tree) (e : ℕ × Inode) → sum_by padded_leaf_bytes (leaf_nodes_of tree e) ≤ inode_bytes e.1 + (part block_weight (λ stored. stored.0.0 == e.0) tree.blocks + part entry_bytes (λ n. n.dir == e.0) (values_of tree.entries))
 sum_of tree e =
     let blocks = map block_leaf (filter (λ stored. stored.0.0 == e.0) tree.blocks) in
     let entries = map entry_leaf (by_hash (entries_in tree e.0)) in
-    let all = sum_by-cons leaf_bytes (inode_leaf tree e.0 e.1) (blocks ++ entries) in
-    let two = sum_by-append leaf_bytes blocks entries in
+    let all = sum_by-cons padded_leaf_bytes (inode_leaf tree e.0 e.1) (blocks ++ entries) in
+    let two = sum_by-append padded_leaf_bytes blocks entries in
     let b = sum_by-block_leaves (filter (λ stored. stored.0.0 == e.0) tree.blocks) in
     let n = sum_by-entry_leaves (by_hash (entries_in tree e.0)) in
     let less = sum_by-by_hash entry_bytes (entries_in tree e.0) in
     omega (arith, all, two, b, n, less)
 
 sum_from : (tree : Tree) (inodes : Inodes) (a : ℕ) → ascends nat_cmp (a ∷ keys_of inodes) ≡ true
-    → sum_by leaf_bytes (flat_map (leaves_of tree) inodes) ≤ sum_by inode_bytes (values_of inodes) + (blocks_past tree a + entries_past tree a)
+    → sum_by padded_leaf_bytes (flat_map (leaf_nodes_of tree) inodes) ≤ sum_by inode_bytes (values_of inodes) + (blocks_past tree a + entries_past tree a)
 sum_from tree [] a up = omega arith
 sum_from tree (e ∷ inodes) a up =
     let less = less_of a e.0 (and_first (is_lt (nat_cmp a e.0)) (ascends nat_cmp (e.0 ∷ keys_of inodes)) up) in
     let more = sum_from tree inodes e.0 (and_second (is_lt (nat_cmp a e.0)) (ascends nat_cmp (e.0 ∷ keys_of inodes)) up) in
-    let all = sum_by-append leaf_bytes (leaves_of tree e) (flat_map (leaves_of tree) inodes) in
+    let all = sum_by-append padded_leaf_bytes (leaf_nodes_of tree e) (flat_map (leaf_nodes_of tree) inodes) in
     let here = sum_of tree e in
     let nodes = sum_by-cons inode_bytes e.1 (values_of inodes) in
     let b : part block_weight (λ stored. stored.0.0 == e.0) tree.blocks + blocks_past tree e.0 ≤ blocks_past tree a = part_step block_weight (λ stored. stored.0.0) a e.0 less tree.blocks in
@@ -172,10 +172,10 @@ is_above n h = grind (arith, nat_tests)
 
 pub from_zero : (inodes : Inodes) → IsTrue (list_all is_inode_node inodes) → ascends nat_cmp (keys_of inodes) ≡ true → ascends nat_cmp (0 ∷ keys_of inodes) ≡ true
 from_zero [] h up = refl
-from_zero (e ∷ inodes) h up = let less : is_lt (nat_cmp 0 e.0) ≡ true = is_above e.0 (numbered e (and_first (is_inode_node e) (list_all is_inode_node inodes) h)) in ap (λ b. b && ascends nat_cmp (e.0 ∷ keys_of inodes)) less ∙ up
+from_zero (e ∷ inodes) h up = let less : is_lt (nat_cmp 0 e.0) ≡ true = is_above e.0 (inode_numbered e (and_first (is_inode_node e) (list_all is_inode_node inodes) h)) in ap (λ b. b && ascends nat_cmp (e.0 ∷ keys_of inodes)) less ∙ up
 
 -- the nodes of a proper tree take no more than its bytes
-pub sum_by-live_leaves : (tree : Tree) → IsProper tree → sum_by leaf_bytes (live_leaves tree) ≤ tree_bytes tree
+pub sum_by-live_leaves : (tree : Tree) → IsProper tree → sum_by padded_leaf_bytes (live_leaves tree) ≤ tree_bytes tree
 sum_by-live_leaves tree p =
     let all = sum_from tree tree.inodes 0 (from_zero tree.inodes p.inode_nodes p.inodes_ascend) in
     let b : blocks_past tree 0 ≤ sum_by block_weight tree.blocks = part_le block_weight (λ stored. nat_lt 0 stored.0.0) tree.blocks in

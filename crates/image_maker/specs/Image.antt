@@ -11,8 +11,8 @@ use Rattle.media_leaf.specs.LeafNode.{LeafNode}
 use Rattle.group_nodes.specs.Texts.{leaf_text}
 
 -- the shape of a volume of this geometry
-abbrev pub shape_of : RawGeometry → VolShape
-shape_of raw = record { leb_size = raw.leb_size; min_io = raw.min_io; leb_cnt = raw.leb_cnt }
+abbrev pub shape_for : RawGeometry → VolShape
+shape_for raw = record { leb_size = raw.leb_size; min_io = raw.min_io; leb_cnt = raw.leb_cnt }
 
 -- the texts of leaves, numbered from this number on, each with the group type 0
 abbrev pub leaf_texts : ℕ → List LeafNode → List (List ℕ)

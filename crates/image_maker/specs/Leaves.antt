@@ -27,11 +27,11 @@ abbrev pub entry_leaf : Entry → LeafNode
 entry_leaf e = node_of (SetEntry e)
 
 -- the nodes of an inode: its own, those of its blocks, and those of the entries in it
-abbrev pub leaves_of : Tree → ℕ × Inode → List LeafNode
-leaves_of tree node =
+abbrev pub leaf_nodes_of : Tree → ℕ × Inode → List LeafNode
+leaf_nodes_of tree node =
     inode_leaf tree node.0 node.1
     ∷ (map block_leaf (filter (λ stored. stored.0.0 == node.0) tree.blocks) ++ map entry_leaf (by_hash (entries_in tree node.0)))
 
 -- all nodes, inode by inode
 abbrev pub live_leaves : Tree → List LeafNode
-live_leaves tree = flat_map (leaves_of tree) tree.inodes
+live_leaves tree = flat_map (leaf_nodes_of tree) tree.inodes

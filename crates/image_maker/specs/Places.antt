@@ -5,7 +5,7 @@ use Rattle.ubifs_base.specs.declared.raw_geometry.RawGeometry.{RawGeometry}
 use Rattle.ubifs_base.specs.Areas.{main_first}
 use Rattle.media_leaf.specs.LeafNode.{LeafNode, IsLeafNode, written}
 use Rattle.leaf_map.specs.Kept.{Placed, kept_at}
-use Rattle.group_nodes.specs.Texts.{leaf_bytes, leaf_len, leaf_text}
+use Rattle.group_nodes.specs.Texts.{padded_leaf_bytes, leaf_len, leaf_text}
 use Rattle.image_maker.specs.Image.{AreHeld}
 use Rattle.image_maker.specs.Packed.{packed_leaves}
 use Rattle.image_maker.specs.declared.laid_leaves.LaidLeaves.{LaidLeaves}
@@ -26,7 +26,7 @@ placed_leaf lnum offs n = record { node = n.1; sqnum = n.0; group = 0; lnum = ln
 -- leaves in a LEB, one behind another from this offset on
 abbrev pub placed_row : ℕ → ℕ → List (ℕ × LeafNode) → List Placed
 placed_row lnum offs [] = []
-placed_row lnum offs (n ∷ row) = placed_leaf lnum offs n ∷ placed_row lnum (offs + leaf_bytes n.1) row
+placed_row lnum offs (n ∷ row) = placed_leaf lnum offs n ∷ placed_row lnum (offs + padded_leaf_bytes n.1) row
 
 -- rows of leaves in LEBs that follow one another from this on, each from its LEB's start on
 abbrev pub placed_rows : ℕ → List (List (ℕ × LeafNode)) → List Placed
@@ -35,7 +35,7 @@ placed_rows lnum (row ∷ rows) = placed_row lnum 0 row ++ placed_rows (suc lnum
 
 -- how many bytes leaves take, each with those up to a multiple of 8
 abbrev pub row_bytes : List (ℕ × LeafNode) → ℕ
-row_bytes row = sum_by (λ n. leaf_bytes n.1) row
+row_bytes row = sum_by (λ n. padded_leaf_bytes n.1) row
 
 -- leaves that fill a LEB: some, and no more than it has room for
 pub record FitsLeb (raw : RawGeometry) (row : List (ℕ × LeafNode)) : Type 0 where

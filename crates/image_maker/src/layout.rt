@@ -7,11 +7,11 @@ ghost use Rattle.ubi_volume.specs.MemVolume.{state_of, IsBlank};
 ghost use Rattle.ubi_volume.specs.Volume.{SameShape};
 ghost use Rattle.fs_model.specs.Cover.{tree_bytes};
 ghost use Rattle.fs_model.specs.Proper.{IsProper};
-ghost use Rattle.image_maker.specs.Leaves.{block_leaf, entry_leaf, leaves_of, live_leaves};
-ghost use Rattle.image_maker.specs.Image.{IsImage, shape_of};
+ghost use Rattle.image_maker.specs.Leaves.{block_leaf, entry_leaf, leaf_nodes_of, live_leaves};
+ghost use Rattle.image_maker.specs.Image.{IsImage, shape_for};
 ghost use Rattle.image_maker.specs.Packed.{packed_leaves};
 ghost use Rattle.image_maker.specs.Places.{AreLaid};
-ghost use Rattle.image_maker.specs.Laying.{HasGeometry, IsReady, Lays, HavePlainModes};
+ghost use Rattle.image_maker.specs.Laying.{HasVolumeGeometry, AreLeavesReady, LaysLeaves, HavePlainModes};
 
 use crate::laid_leaves::LaidLeaves;
 use crate::open_leb::OpenLeb;
@@ -34,7 +34,7 @@ pub fn lay_tree(
     geometry: &Geometry,
     tree: &Tree,
 ) -> Result<LaidLeaves, Memory>
-    requires volume { IsBlank (shape_of (raw_of geometry.now)) (state_of volume.old) }
+    requires volume { IsBlank (shape_for (raw_of geometry.now)) (state_of volume.old) }
     requires proper { IsProper tree.now }
     requires few { tree_bytes tree.now ≤ 2 ^ 30 }
     requires room { length (packed_leaves geometry.now.leb_size 0 (live_leaves tree.now)) < main_lebs (raw_of geometry.now) }
@@ -60,11 +60,11 @@ fn lay_inodes(
     open_leb: &mut OpenLeb,
     tree: &Tree,
 ) -> Result<(), Memory>
-    requires ready { IsReady (raw_of geometry.now) (live_leaves tree.now) open_leb.old (state_of volume.old) }
+    requires ready { AreLeavesReady (raw_of geometry.now) (live_leaves tree.now) open_leb.old (state_of volume.old) }
     requires modes { HavePlainModes tree.now.inodes }
     requires few { tree_bytes tree.now ≤ 2 ^ 30 }
-    ensures laid { OnOk result (Lays (raw_of geometry.now) (live_leaves tree.now) open_leb.old (state_of volume.old) open_leb.new (state_of volume.new)) }
-    ensures geometry { HasGeometry (raw_of geometry.now) (state_of volume.new) }
+    ensures laid { OnOk result (LaysLeaves (raw_of geometry.now) (live_leaves tree.now) open_leb.old (state_of volume.old) open_leb.new (state_of volume.new)) }
+    ensures geometry { HasVolumeGeometry (raw_of geometry.now) (state_of volume.new) }
 {
     let mut rest = tree.inodes();
     'laying: while let Some((ino, inode)) = rest.next() {
@@ -83,11 +83,11 @@ fn lay_inode(
     ino: u32,
     inode: &Inode,
 ) -> Result<(), Memory>
-    requires ready { IsReady (raw_of geometry.now) (leaves_of tree.now (ino, inode.now)) open_leb.old (state_of volume.old) }
+    requires ready { AreLeavesReady (raw_of geometry.now) (leaf_nodes_of tree.now (ino, inode.now)) open_leb.old (state_of volume.old) }
     requires mode { inode.now.mode < 4096 }
     requires few { tree_bytes tree.now ≤ 2 ^ 30 }
-    ensures laid { OnOk result (Lays (raw_of geometry.now) (leaves_of tree.now (ino, inode.now)) open_leb.old (state_of volume.old) open_leb.new (state_of volume.new)) }
-    ensures geometry { HasGeometry (raw_of geometry.now) (state_of volume.new) }
+    ensures laid { OnOk result (LaysLeaves (raw_of geometry.now) (leaf_nodes_of tree.now (ino, inode.now)) open_leb.old (state_of volume.old) open_leb.new (state_of volume.new)) }
+    ensures geometry { HasVolumeGeometry (raw_of geometry.now) (state_of volume.new) }
 {
     let entries = tree.entries_in(alloc, ino)?;
     let leaf = inode_leaf(ino, inode, entries.as_slice())?;
@@ -107,9 +107,9 @@ fn lay_blocks(
     tree: &Tree,
     ino: u32,
 ) -> Result<(), Memory>
-    requires ready { IsReady (raw_of geometry.now) (map block_leaf (filter (λ stored. stored.0.0 == ino) tree.now.blocks)) open_leb.old (state_of volume.old) }
-    ensures laid { OnOk result (Lays (raw_of geometry.now) (map block_leaf (filter (λ stored. stored.0.0 == ino) tree.now.blocks)) open_leb.old (state_of volume.old) open_leb.new (state_of volume.new)) }
-    ensures geometry { HasGeometry (raw_of geometry.now) (state_of volume.new) }
+    requires ready { AreLeavesReady (raw_of geometry.now) (map block_leaf (filter (λ stored. stored.0.0 == ino) tree.now.blocks)) open_leb.old (state_of volume.old) }
+    ensures laid { OnOk result (LaysLeaves (raw_of geometry.now) (map block_leaf (filter (λ stored. stored.0.0 == ino) tree.now.blocks)) open_leb.old (state_of volume.old) open_leb.new (state_of volume.new)) }
+    ensures geometry { HasVolumeGeometry (raw_of geometry.now) (state_of volume.new) }
 {
     let mut rest = tree.blocks_of(ino);
     'laying: while let Some((key, bytes)) = rest.next() {
@@ -127,9 +127,9 @@ fn lay_entries(
     open_leb: &mut OpenLeb,
     rows: Rows,
 ) -> Result<(), Memory>
-    requires ready { IsReady (raw_of geometry.now) (map entry_leaf rows) open_leb.old (state_of volume.old) }
-    ensures laid { OnOk result (Lays (raw_of geometry.now) (map entry_leaf rows) open_leb.old (state_of volume.old) open_leb.new (state_of volume.new)) }
-    ensures geometry { HasGeometry (raw_of geometry.now) (state_of volume.new) }
+    requires ready { AreLeavesReady (raw_of geometry.now) (map entry_leaf rows) open_leb.old (state_of volume.old) }
+    ensures laid { OnOk result (LaysLeaves (raw_of geometry.now) (map entry_leaf rows) open_leb.old (state_of volume.old) open_leb.new (state_of volume.new)) }
+    ensures geometry { HasVolumeGeometry (raw_of geometry.now) (state_of volume.new) }
 {
     'laying: for entry in rows.into_vec() {
         let leaf = entry_leaf(entry);

@@ -6,10 +6,10 @@ ghost use Rattle.ubifs_base.specs.RawOf.{raw_of};
 ghost use Rattle.ubi_volume.specs.MemVolume.{state_of};
 ghost use Rattle.media_leaf.specs.LeafNode.{LeafNode, IsLeaf};
 ghost use Rattle.group_nodes.specs.Nodes.{node_of, HasPlainMode};
-ghost use Rattle.group_nodes.specs.Texts.{leaf_bytes, leaf_text};
+ghost use Rattle.group_nodes.specs.Texts.{padded_leaf_bytes, leaf_text};
 ghost use Rattle.image_maker.specs.Image.{to_unit, round_up};
 ghost use Rattle.image_maker.specs.Packed.{packed_after};
-ghost use Rattle.image_maker.specs.Laying.{HasGeometry, TakesLeaf, IsLaid, IsReady, Lays, IsClosed};
+ghost use Rattle.image_maker.specs.Laying.{HasVolumeGeometry, TakesLeaf, AreLeafNodesLaid, AreLeavesReady, LaysLeaves, IsLeafLebClosed};
 
 use crate::tree_leaves::leaf_at;
 use fs_model::Change;
@@ -56,10 +56,10 @@ impl OpenLeb {
         volume: &mut MemVolume,
         leaf: &Change,
     ) -> Result<(), Memory>
-        requires ready { IsReady (raw_of geometry.now) (node_of leaf.now ∷ []) self.old (state_of volume.old) }
+        requires ready { AreLeavesReady (raw_of geometry.now) (node_of leaf.now ∷ []) self.old (state_of volume.old) }
         requires mode { HasPlainMode leaf.now }
-        ensures laid { OnOk result (Lays (raw_of geometry.now) (node_of leaf.now ∷ []) self.old (state_of volume.old) self.new (state_of volume.new)) }
-        ensures geometry { HasGeometry (raw_of geometry.now) (state_of volume.new) }
+        ensures laid { OnOk result (LaysLeaves (raw_of geometry.now) (node_of leaf.now ∷ []) self.old (state_of volume.old) self.new (state_of volume.new)) }
+        ensures geometry { HasVolumeGeometry (raw_of geometry.now) (state_of volume.new) }
     {
         self.take_node(alloc, geometry, volume, leaf)?;
         Ok(())
@@ -73,18 +73,18 @@ impl OpenLeb {
         volume: &mut MemVolume,
         leaf: &Change,
     ) -> Result<(), Memory>
-        requires geometry { HasGeometry (raw_of geometry.now) (state_of volume.old) }
+        requires geometry { HasVolumeGeometry (raw_of geometry.now) (state_of volume.old) }
         requires node { IsLeaf (node_of leaf.now) }
         requires mode { HasPlainMode leaf.now }
         requires room { self.old.lnum + 2 ≤ geometry.now.leb_cnt }
         requires number { self.old.sqnum < 2 ^ 63 }
         requires fits { length self.old.bytes.items ≤ geometry.now.leb_size }
-        ensures laid { OnOk result ((leaves : List LeafNode) → IsLaid (raw_of geometry.now) leaves self.old (state_of volume.old).holds
-            → IsLaid (raw_of geometry.now) (leaves ++ node_of leaf.now ∷ []) self.new (state_of volume.new).holds) }
+        ensures laid { OnOk result ((leaves : List LeafNode) → AreLeafNodesLaid (raw_of geometry.now) leaves self.old (state_of volume.old).holds
+            → AreLeafNodesLaid (raw_of geometry.now) (leaves ++ node_of leaf.now ∷ []) self.new (state_of volume.new).holds) }
         ensures packed { OnOk result ((leaves : List LeafNode) → packed_after (raw_of geometry.now) self.new leaves ≡ packed_after (raw_of geometry.now) self.old (node_of leaf.now ∷ leaves)) }
         ensures some { OnOk result (0 < length self.new.bytes.items) }
         ensures fits { OnOk result (length self.new.bytes.items ≤ geometry.now.leb_size) }
-        ensures geometry { HasGeometry (raw_of geometry.now) (state_of volume.new) }
+        ensures geometry { HasVolumeGeometry (raw_of geometry.now) (state_of volume.new) }
     {
         let len = text_len(leaf);
         self.make_room(geometry, volume, len)?;
@@ -99,17 +99,17 @@ impl OpenLeb {
         volume: &mut MemVolume,
         len: usize,
     ) -> Result<(), Memory>
-        requires geometry { HasGeometry (raw_of geometry.now) (state_of volume.old) }
+        requires geometry { HasVolumeGeometry (raw_of geometry.now) (state_of volume.old) }
         requires most { len ≤ 4256 }
         requires room { self.old.lnum + 2 ≤ geometry.now.leb_cnt }
         requires fits { length self.old.bytes.items ≤ geometry.now.leb_size }
-        ensures laid { OnOk result ((leaves : List LeafNode) → IsLaid (raw_of geometry.now) leaves self.old (state_of volume.old).holds
-            → IsLaid (raw_of geometry.now) leaves self.new (state_of volume.new).holds) }
-        ensures packed { OnOk result ((next : LeafNode) (leaves : List LeafNode) → leaf_bytes next ≡ len
+        ensures laid { OnOk result ((leaves : List LeafNode) → AreLeafNodesLaid (raw_of geometry.now) leaves self.old (state_of volume.old).holds
+            → AreLeafNodesLaid (raw_of geometry.now) leaves self.new (state_of volume.new).holds) }
+        ensures packed { OnOk result ((next : LeafNode) (leaves : List LeafNode) → padded_leaf_bytes next ≡ len
             → packed_after (raw_of geometry.now) self.new (next ∷ leaves) ≡ packed_after (raw_of geometry.now) self.old (next ∷ leaves)) }
         ensures sqnum { OnOk result (self.new.sqnum ≡ self.old.sqnum) }
         ensures fits { OnOk result (length self.new.bytes.items + len ≤ geometry.now.leb_size) }
-        ensures geometry { HasGeometry (raw_of geometry.now) (state_of volume.new) }
+        ensures geometry { HasVolumeGeometry (raw_of geometry.now) (state_of volume.new) }
     {
         if self.bytes.len() + len <= geometry.leb_size as usize {
             return Ok(());
@@ -124,12 +124,12 @@ impl OpenLeb {
         geometry: &Geometry,
         volume: &mut MemVolume,
     ) -> Result<(), Memory>
-        requires geometry { HasGeometry (raw_of geometry.now) (state_of volume.old) }
+        requires geometry { HasVolumeGeometry (raw_of geometry.now) (state_of volume.old) }
         requires room { self.old.lnum + 1 ≤ geometry.now.leb_cnt }
         requires some { 0 < length self.old.bytes.items }
         requires fits { length self.old.bytes.items ≤ geometry.now.leb_size }
-        ensures closed { OnOk result (IsClosed (raw_of geometry.now) self.old self.new (state_of volume.old).holds (state_of volume.new).holds) }
-        ensures geometry { HasGeometry (raw_of geometry.now) (state_of volume.new) }
+        ensures closed { OnOk result (IsLeafLebClosed (raw_of geometry.now) self.old self.new (state_of volume.old).holds (state_of volume.new).holds) }
+        ensures geometry { HasVolumeGeometry (raw_of geometry.now) (state_of volume.new) }
     {
         self.used.push(self.bytes.len() as u32)?;
         fill_unit(&mut self.bytes, geometry.min_io as usize)?;
@@ -161,7 +161,7 @@ fn append_text(alloc: Global, bytes: &mut Vec<u8>, leaf: &Change, sqnum: u64) ->
     requires mode { HasPlainMode leaf.now }
     requires fits { length bytes.old.items ≤ 2097152 }
     ensures bytes { OnOk result (bytes.new.items ≡ bytes.old.items ++ leaf_text sqnum 0 (node_of leaf.now)) }
-    ensures len { OnOk result (length bytes.new.items ≡ length bytes.old.items + leaf_bytes (node_of leaf.now)) }
+    ensures len { OnOk result (length bytes.new.items ≡ length bytes.old.items + padded_leaf_bytes (node_of leaf.now)) }
 {
     let mut text = vec![in alloc; 0; text_len(leaf)]?;
     write_text(alloc, leaf, sqnum, 0, &mut text);

@@ -6,7 +6,7 @@ ghost use Rattle.fs_model.specs.Directory.{dir_links, entries_in, links_of};
 ghost use Rattle.fs_model.specs.Files.{Tree as FilesTree};
 ghost use Rattle.group_nodes.specs.Nodes.{node_of, HasPlainMode};
 ghost use Rattle.image_maker.specs.Leaves.{stored_size, inode_leaf, block_leaf, entry_leaf};
-ghost use Rattle.image_maker.specs.Laying.{AreListed};
+ghost use Rattle.image_maker.specs.Laying.{AreEntriesListed};
 ghost use Rattle.image_maker.specs.Places.{placed_leaf};
 ghost use Rattle.leaf_map.specs.Kept.{kept_at, node_key};
 ghost use Rattle.media_leaf.specs.LeafNode.{IsLeaf};
@@ -22,7 +22,7 @@ use ubifs_base::{Bytes, Key, Memory, Name, r5};
 
 // The change that makes an inode's node, in which these entries are.
 pub(crate) fn inode_leaf(ino: u32, inode: &Inode, entries: &[Entry]) -> Result<Change, Memory>
-    requires listed { AreListed entries.now }
+    requires listed { AreEntriesListed entries.now }
     requires mode { inode.now.mode < 4096 }
     requires few { sum_by entry_bytes entries.now ≤ 2 ^ 30 }
     ensures mode { IfOk result (λ leaf. HasPlainMode leaf) }
@@ -59,7 +59,7 @@ fn stored_size(inode: &Inode, entries: &[Entry]) -> u64
 
 // The links that an inode has; a directory's are reckoned.
 fn links_of(inode: &Inode, entries: &[Entry]) -> u32
-    requires listed { AreListed entries.now }
+    requires listed { AreEntriesListed entries.now }
     requires few { sum_by entry_bytes entries.now ≤ 2 ^ 30 }
     ensures { (tree : FilesTree) (ino : ℕ) → entries_in tree ino ≡ entries.now → result ≡ links_of tree ino inode.now }
 {
@@ -71,7 +71,7 @@ fn links_of(inode: &Inode, entries: &[Entry]) -> u32
 
 // The links of a directory. Each entry takes bytes, so that they are few.
 fn few_links(entries: &[Entry]) -> u32
-    requires listed { AreListed entries.now }
+    requires listed { AreEntriesListed entries.now }
     requires few { sum_by entry_bytes entries.now ≤ 2 ^ 30 }
     ensures { (tree : FilesTree) (dir : ℕ) → entries_in tree dir ≡ entries.now → result ≡ dir_links tree dir }
 {

@@ -20,7 +20,7 @@ use Rattle.recovered_tree.specs.Files.{files_of_image}
 use Rattle.recovered_tree.specs.Checked.{HasShapeOfImage}
 use Rattle.image_dump.specs.ContentsLaws.{OneGeometry, holds_are, superblock_of, some_lebs, geometry_told}
 use Rattle.image_dump.specs.Listing.{IsListing}
-use Rattle.image_dump.specs.Opening.{HasVolume, IsOpened, contents_of, shape_of}
+use Rattle.image_dump.specs.Opening.{HasVolume, IsImageOpened, contents_of, shape_of}
 use Rattle.image_dump.specs.declared.opening.Opened.{Opened}
 use Rattle.image_report.specs.Lines.{breach_line}
 use Rattle.image_report.specs.Told.{HoldsSoundImage, IsUnsound}
@@ -30,8 +30,8 @@ pub shape_at : OneGeometry → (image : List ℕ) (geo : RawGeometry) (v : Image
 shape_at one image geo v volume loaded = record { some = some_lebs image geo v volume loaded; shape = λ g other. geometry_told one image geo g v volume loaded other }
 
 -- after a call that keeps all it is still the volume of the image
-pub still_opened : (image : List ℕ) (opened : Opened) (new : ImageVolume) → IsOpened image opened → Keeps (state_of opened.volume) (state_of new) → SameShape (state_of opened.volume) (state_of new)
-    → (state_of new).sure → (state_of new).faults ≡ (state_of opened.volume).faults → IsOpened image (record { volume = new; geometry = opened.geometry })
+pub still_opened : (image : List ℕ) (opened : Opened) (new : ImageVolume) → IsImageOpened image opened → Keeps (state_of opened.volume) (state_of new) → SameShape (state_of opened.volume) (state_of new)
+    → (state_of new).sure → (state_of new).faults ≡ (state_of opened.volume).faults → IsImageOpened image (record { volume = new; geometry = opened.geometry })
 still_opened image opened new is keeps shape sure faults = record {
   volume = is.volume;
   loaded = IsLoaded-keeps (shape_of (raw_of opened.geometry)) image (state_of opened.volume) (state_of new) is.loaded shape keeps sure (unbroken_of new sure) faults;

@@ -22,7 +22,7 @@ use Rattle.fs_model.specs.Files.{Tree, inode_at}
 use Rattle.fs_model.specs.Proper.{IsProper}
 use Rattle.recovered_tree.specs.Files.{files_of_image}
 use Rattle.image_dump.specs.Opening.{contents_of, shape_of}
-use Rattle.image_report.specs.Lebs.{AreLebsOf, AreSoundLebs}
+use Rattle.image_report.specs.Lebs.{AreLebsOfGeometry, AreSoundLebs}
 use Rattle.image_report.specs.Told.{HoldsFiles, HoldsSoundImage}
 use Rattle.image_report.proofs.Contents.{ProperFiles}
 use Rattle.image_report.proofs.OneTold.{OneShape, contents_bytes, joined_bytes}
@@ -73,7 +73,7 @@ laid_leb_of size contents n k sized less =
     ap (filled size) (laid_leb size contents n k sized less) ∙ ap (λ m. contents k ++ replicate m 255) none ∙ append-nil (contents k)
 
 -- The bytes of a volume say what it holds.
-pub laid_contents : (contents : ℕ → List ℕ) (geo : RawGeometry) → AreLebsOf contents geo → contents_of geo (image_of contents geo.leb_cnt) ≡ contents
+pub laid_contents : (contents : ℕ → List ℕ) (geo : RawGeometry) → AreLebsOfGeometry contents geo → contents_of geo (image_of contents geo.leb_cnt) ≡ contents
 laid_contents contents geo are = fun_ext (λ k. at k (nat_lt k geo.leb_cnt) refl)
   where
     at : (k : ℕ) (b : Bool) → nat_lt k geo.leb_cnt ≡ b → (if b then leb_of geo.leb_size (image_of contents geo.leb_cnt) k else []) ≡ contents k
@@ -81,7 +81,7 @@ laid_contents contents geo are = fun_ext (λ k. at k (nat_lt k geo.leb_cnt) refl
     at k false e = sym (are.none k (ltb-false k geo.leb_cnt e))
 
 -- they begin with the superblock that LEB 0 begins with
-laid_begins : (contents : ℕ → List ℕ) (geo : RawGeometry) (node : Super) → AreLebsOf contents geo → 0 < geo.leb_cnt → 4096 ≤ geo.leb_size → BeginsWithSuper (contents 0) node
+laid_begins : (contents : ℕ → List ℕ) (geo : RawGeometry) (node : Super) → AreLebsOfGeometry contents geo → 0 < geo.leb_cnt → 4096 ≤ geo.leb_size → BeginsWithSuper (contents 0) node
     → BeginsWithSuper (image_of contents geo.leb_cnt) node
 laid_begins contents geo node are some large begins =
     let bytes = image_of contents geo.leb_cnt in
@@ -94,7 +94,7 @@ laid_begins contents geo node are some large begins =
     record { room = omega (arith, long, one, large); sqnum = begins.sqnum; group = begins.group; is = subst P same begins.is }
 
 -- and are those of whole LEBs, with nothing behind them
-laid_fits : (contents : ℕ → List ℕ) (geo : RawGeometry) → AreLebsOf contents geo → 0 < geo.leb_cnt → 4096 ≤ geo.leb_size → Fits (shape_of geo) (image_of contents geo.leb_cnt)
+laid_fits : (contents : ℕ → List ℕ) (geo : RawGeometry) → AreLebsOfGeometry contents geo → 0 < geo.leb_cnt → 4096 ≤ geo.leb_size → Fits (shape_of geo) (image_of contents geo.leb_cnt)
 laid_fits contents geo are some large =
     let bytes = image_of contents geo.leb_cnt in
     let long = laid_length geo.leb_size contents geo.leb_cnt are.lebs.full in
@@ -108,7 +108,7 @@ laid_fits contents geo are some large =
     }
 
 -- So they hold the sound image that it holds.
-pub laid_holds : (contents : ℕ → List ℕ) (image : Image) → AreLebsOf contents image.geo → SoundImage contents image → HoldsSoundImage (image_of contents image.geo.leb_cnt) image
+pub laid_holds : (contents : ℕ → List ℕ) (image : Image) → AreLebsOfGeometry contents image.geo → SoundImage contents image → HoldsSoundImage (image_of contents image.geo.leb_cnt) image
 laid_holds contents image are sound =
     let has = sound.superblock in
     let size = has.in_range.leb_size.0 in
@@ -137,7 +137,7 @@ abbrev pub OneTree : Type 0
 OneTree = (contents : ℕ → List ℕ) (a b : Image) → ((k : ℕ) → IsBytes (contents k)) → SoundImage contents a → SoundImage contents b → files_of_image a ≡ files_of_image b
 
 -- So they hold its files.
-laid_tree : ProperFiles → WholeFiles → (contents : ℕ → List ℕ) (image : Image) (tree : Tree) → AreLebsOf contents image.geo → SoundImage contents image → tree_of_image image ≡ tree
+laid_tree : ProperFiles → WholeFiles → (contents : ℕ → List ℕ) (image : Image) (tree : Tree) → AreLebsOfGeometry contents image.geo → SoundImage contents image → tree_of_image image ≡ tree
     → IsTrue (list_all (λ b. is_some (inode_at tree b.0.0)) tree.blocks) → HoldsFiles (image_of contents image.geo.leb_cnt) image.geo tree
 laid_tree proper whole contents image tree are sound said owned =
     let Owned : Tree → Type 0 = λ t. IsTrue (list_all (λ b. is_some (inode_at t b.0.0)) t.blocks) in
@@ -148,7 +148,7 @@ laid_tree proper whole contents image tree are sound said owned =
 pub laid_files : ProperFiles → WholeFiles → (contents : ℕ → List ℕ) (geo : RawGeometry) (tree : Tree) → AreSoundLebs contents geo tree
     → IsTrue (list_all (λ b. is_some (inode_at tree b.0.0)) tree.blocks) → HoldsFiles (image_of contents geo.leb_cnt) geo tree
 laid_files proper whole contents geo tree are owned =
-    let P : RawGeometry → Type 0 = λ g. AreLebsOf contents g in
+    let P : RawGeometry → Type 0 = λ g. AreLebsOfGeometry contents g in
     let Q : RawGeometry → Type 0 = λ g. HoldsFiles (image_of contents g.leb_cnt) g tree in
     subst Q are.geometry (laid_tree proper whole contents are.image tree (subst P (sym are.geometry) are.all) are.sound are.recovered owned)
 

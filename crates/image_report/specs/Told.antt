@@ -41,9 +41,9 @@ abbrev pub ListsSound : List ℕ → List ℕ → Type 0
 ListsSound bytes text = (image : Image) × HoldsSoundImage bytes image × IsListing image.geo (contents_of image.geo bytes) image.geo.leb_cnt text
 
 -- what is wrong with bytes, or a text of which this holds
-abbrev pub IsText : (List ℕ → Type 0) → List ℕ → ImageText → Type 0
-IsText Is bytes (Unsound line) = IsUnsound bytes line.items
-IsText Is bytes (Sound text) = Is text.items
+abbrev pub IsReportText : (List ℕ → Type 0) → List ℕ → ImageText → Type 0
+IsReportText Is bytes (Unsound line) = IsUnsound bytes line.items
+IsReportText Is bytes (Sound text) = Is text.items
 
 -- The bytes hold a sound image of this geometry, and this is the tree of which a mount makes its files. It is proper.
 pub record HoldsFiles (bytes : List ℕ) (geo : RawGeometry) (tree : Tree) : Type 0 where

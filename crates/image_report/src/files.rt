@@ -1,7 +1,7 @@
 // The files of an image.
 
 ghost use Rattle.std.specs.Prelude.{IfOk};
-ghost use Rattle.image_dump.specs.Opening.{IsOpened};
+ghost use Rattle.image_dump.specs.Opening.{IsImageOpened};
 ghost use Rattle.image_report.specs.Told.{AreImageFiles};
 
 use crate::breach_line::{breach_line, fault_line};
@@ -53,7 +53,7 @@ fn files_in<R: Threads + Sync>(
     bytes: &[u8],
     opened: Opened<'_>,
 ) -> Result<ImageFiles, Memory>
-    requires { IsOpened bytes.now opened }
+    requires { IsImageOpened bytes.now opened }
     ensures { IfOk result (AreImageFiles bytes.now) }
 {
     contents_say_one_thing();

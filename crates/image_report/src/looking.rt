@@ -1,7 +1,7 @@
 // An image is opened and checked.
 
 ghost use Rattle.std.specs.Prelude.{IfOk};
-ghost use Rattle.image_dump.specs.Opening.{IsOpened};
+ghost use Rattle.image_dump.specs.Opening.{IsImageOpened};
 ghost use Rattle.image_report.specs.Looked.{IsLooked};
 
 use crate::breach_line::{breach_line, fault_line};
@@ -45,7 +45,7 @@ fn check_opened<'a, R: Threads + Sync>(
     bytes: &[u8],
     opened: Opened<'a>,
 ) -> Result<Looked<'a>, Memory>
-    requires { IsOpened bytes.now opened }
+    requires { IsImageOpened bytes.now opened }
     ensures { IfOk result (IsLooked bytes.now) }
 {
     contents_say_one_thing();

@@ -3,8 +3,8 @@
 ghost use Rattle.std.specs.Prelude.{◌≡◌, IfOk, OnOk};
 ghost use Rattle.ubifs_base.specs.RawOf.{raw_of};
 ghost use Rattle.image_dump.specs.Listing.{IsListing};
-ghost use Rattle.image_dump.specs.Opening.{IsOpened, contents_of};
-ghost use Rattle.image_report.specs.Told.{IsText, ListsSound, TellsSound};
+ghost use Rattle.image_dump.specs.Opening.{IsImageOpened, contents_of};
+ghost use Rattle.image_report.specs.Told.{IsReportText, ListsSound, TellsSound};
 
 use crate::looking::{Looked, look};
 use crate::sound_line::sound_line;
@@ -27,7 +27,7 @@ pub fn check_text<R: Threads + Sync>(
     alloc: Global,
     bytes: &[u8],
 ) -> Result<ImageText, Memory>
-    ensures { IfOk result (IsText (TellsSound bytes.now) bytes.now) }
+    ensures { IfOk result (IsReportText (TellsSound bytes.now) bytes.now) }
 {
     let looked = look(rt, alloc, bytes)?;
     match looked {
@@ -45,7 +45,7 @@ pub fn dump_text<R: Threads + Sync>(
     alloc: Global,
     bytes: &[u8],
 ) -> Result<ImageText, Memory>
-    ensures { IfOk result (IsText (ListsSound bytes.now) bytes.now) }
+    ensures { IfOk result (IsReportText (ListsSound bytes.now) bytes.now) }
 {
     match look(rt, alloc, bytes)? {
         Looked::Unsound { line } => Ok(ImageText::Unsound { line }),
@@ -58,7 +58,7 @@ pub fn dump_text<R: Threads + Sync>(
 
 // The listing of the volume of an image.
 fn listing(alloc: Global, bytes: &[u8], opened: Opened<'_>) -> Result<Vec<u8>, Memory>
-    requires { IsOpened bytes.now opened }
+    requires { IsImageOpened bytes.now opened }
     ensures { IfOk result (λ text. IsListing (raw_of opened.entry.geometry) (contents_of (raw_of opened.entry.geometry) bytes.now) (raw_of opened.entry.geometry).leb_cnt text.items) }
 {
     let Opened {

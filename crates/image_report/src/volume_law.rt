@@ -9,7 +9,7 @@ ghost use Rattle.fs_model.specs.Files.{Tree as ATree, inode_at};
 ghost use Rattle.fs_model.specs.declared.space.Space.{Space as ASpace};
 ghost use Rattle.sound_image.specs.Image.{Image};
 ghost use Rattle.sound_image.specs.Sound.{SoundImage};
-ghost use Rattle.image_report.specs.Lebs.{AreLebsOf, AreSoundLebs};
+ghost use Rattle.image_report.specs.Lebs.{AreLebsOfGeometry, AreSoundLebs};
 ghost use Rattle.image_report.specs.Told.{HoldsFiles, HoldsSoundImage, HoldsVolume};
 
 use image_dump::never_both;
@@ -19,11 +19,11 @@ use sound_image::contents_say_one_thing;
 /// The LEBs of a volume, one behind another, hold the sound image that the volume holds. Its files are those of the tree of which a mount
 /// makes its files, if each block's inode is there.
 pub fn the_bytes_of_a_volume_hold_what_it_holds()
-    ensures image { (contents : ℕ → List ℕ) (image : Image) → AreLebsOf contents image.geo → SoundImage contents image
+    ensures image { (contents : ℕ → List ℕ) (image : Image) → AreLebsOfGeometry contents image.geo → SoundImage contents image
         → HoldsSoundImage (image_of contents image.geo.leb_cnt) image }
     ensures files { (contents : ℕ → List ℕ) (geo : RawGeometry) (tree : ATree) → AreSoundLebs contents geo tree
         → IsTrue (list_all (λ b. is_some (inode_at tree b.0.0)) tree.blocks) → HoldsFiles (image_of contents geo.leb_cnt) geo tree }
-    ensures bytes { (contents : ℕ → List ℕ) (geo : RawGeometry) → AreLebsOf contents geo → IsBytes (image_of contents geo.leb_cnt) }
+    ensures bytes { (contents : ℕ → List ℕ) (geo : RawGeometry) → AreLebsOfGeometry contents geo → IsBytes (image_of contents geo.leb_cnt) }
 {
     the_files_of_an_image_are_proper();
 }

@@ -5,8 +5,8 @@ use Rattle.media_sys.specs.declared.branch.Branch.{Branch}
 use Rattle.index_tree.specs.declared.leaf.Leaf.{Leaf}
 
 -- the bytes that a leaf takes
-abbrev pub leaf_bytes : Leaf → ℕ
-leaf_bytes leaf = round_8 leaf.len
+abbrev pub bytes_of_leaf : Leaf → ℕ
+bytes_of_leaf leaf = round_8 leaf.len
 
 -- 2 for a node as long as one with as many branches as it may have, and else 1: after 28 bytes a branch has 20
 abbrev pub node_weight : ℕ → Branch → ℕ

@@ -2,7 +2,7 @@
 
 ghost use Rattle.std.specs.Prelude.{◌≡◌, ◌+◌, IfOk, sum_by};
 ghost use Rattle.fs_model.specs.Cover.{round_8 as rounded};
-ghost use Rattle.image_space.specs.Weight.{leaf_bytes, node_weight as weight_told, weight_by_lengths};
+ghost use Rattle.image_space.specs.Weight.{bytes_of_leaf, node_weight as weight_told, weight_by_lengths};
 
 use index_tree::Leaf;
 use media_sys::Branch;
@@ -10,7 +10,7 @@ use ubifs_base::{BRANCH_LEN, INDEX_NODE_LEN, Memory};
 
 /// The bytes that leaves take, each length rounded up to 8.
 pub(crate) fn bytes_used(leaves: &[Leaf]) -> Result<u64, Memory>
-    ensures { IfOk result (λ used. used ≡ sum_by leaf_bytes leaves.now) }
+    ensures { IfOk result (λ used. used ≡ sum_by bytes_of_leaf leaves.now) }
 {
     let mut used: u64 = 0;
     let mut left = leaves;

@@ -6,7 +6,7 @@ use Rattle.fs_model.specs.declared.change.Change.TheVariants as changes
 use Rattle.index_tree.specs.declared.leaf.Leaf.{Leaf}
 use Rattle.leaf_map.specs.Kept.{Kept, shown_by}
 use Rattle.leaf_recovery.specs.Told.{Pairwise}
-use Rattle.sound_image.specs.Breaches.{number_of}
+use Rattle.sound_image.specs.Breaches.{inode_number_of}
 use Rattle.sound_image.specs.Wrong.{Wrong, differs}
 use Rattle.image_check.specs.WrongValues.{IsFirstOf, sooner_of, wrong_at}
 use Rattle.tree_check.specs.Places.{misplaced_at, number_shown}
@@ -20,7 +20,7 @@ use Rattle.image_tree.proofs.Members.{IsAtOne, first_told, same_pairs}
 some_same : (a b : Shown) → Some a ≡ Some b → a ≡ b
 some_same a b h = cc
 
-number_is : (x : Kept) (c : Option Change) (s : Shown) → shown_by x ≡ c → shown_told c ≡ Some s → number_shown (key_words x.leaf.key).0 s ≡ number_of x
+number_is : (x : Kept) (c : Option Change) (s : Shown) → shown_by x ≡ c → shown_told c ≡ Some s → number_shown (key_words x.leaf.key).0 s ≡ inode_number_of x
 number_is x None s f e = ap (number_shown (key_words x.leaf.key).0) (sym (some_same _ s e)) ∙ rw f refl
 number_is x (Some (changes.SetInode ino inode)) s f e = ap (number_shown (key_words x.leaf.key).0) (sym (some_same _ s e)) ∙ rw f refl
 number_is x (Some (changes.SetEntry entry)) s f e = ap (number_shown (key_words x.leaf.key).0) (sym (some_same _ s e)) ∙ rw f refl
@@ -30,7 +30,7 @@ number_is x (Some (changes.CutBlocks ino old_size new_size)) s f e = ap (number_
 number_is x (Some (changes.DropInode ino)) s f e = absurd cc
 
 abbrev pub wrong_named : Kept → Wrong
-wrong_named x = record { lnum = x.leaf.lnum; offs = x.leaf.offs; misfit = differs (number_of x) 0 }
+wrong_named x = record { lnum = x.leaf.lnum; offs = x.leaf.offs; misfit = differs (inode_number_of x) 0 }
 
 named_is : (x : Kept) (leaf : ShownLeaf) → IsShownBy x leaf → wrong_at (misplaced_at leaf) ≡ wrong_named x
 named_is x leaf h =

@@ -19,7 +19,7 @@ use Rattle.image_check.specs.FirstLaws.{first_of_both, first_same}
 use Rattle.image_check.specs.WrongValues.{IsFirstOf, sooner_of}
 use Rattle.image_check.specs.declared.wrong_value.WrongValue.{WrongValue}
 use Rattle.shown_leaves.specs.FalseNodes.{IsFalseCopy, IsUnchanging, wrong_node}
-use Rattle.image_tree.specs.Trees.{HasNodes}
+use Rattle.image_tree.specs.Trees.{HasPartNodes}
 use Rattle.image_tree.proofs.Members.{none_wrong, one_more, right_both}
 
 changes_all : (nodes part : List Placed) → ((at : Wrong) → IsUnchanging nodes at → ⊥) → ((x : Placed) → IsOneOf x part → IsOneOf x nodes) → AllByRecursion (λ (x : Placed). IsSome (change_of x.node)) part
@@ -71,12 +71,12 @@ nodes_first parts u c t of to first_u first_c first_t =
     let node = first_same (λ at. IsUnchanging parts.nodes at ⊎ IsFalseCopy parts at) (IsWrongNode parts) (sooner_of u c) to of (first_of_both (IsUnchanging parts.nodes) (IsFalseCopy parts) u c first_u first_c) in
     first_of_both (IsWrongNode parts) (IsCommittedTwice parts) (sooner_of u c) t node first_t
 
-pub nodes_right : (parts : Parts) (u c t : Option WrongValue) → IsFirstOf (IsUnchanging parts.nodes) u → IfNone c (All (IsCopy parts) parts.copies) → IsFirstOf (IsCommittedTwice parts) t → IfNone (sooner_of (sooner_of u c) t) (HasNodes parts)
+pub nodes_right : (parts : Parts) (u c t : Option WrongValue) → IsFirstOf (IsUnchanging parts.nodes) u → IfNone c (All (IsCopy parts) parts.copies) → IsFirstOf (IsCommittedTwice parts) t → IfNone (sooner_of (sooner_of u c) t) (HasPartNodes parts)
 nodes_right parts u c t first_u copies first_t =
     let U = (at : Wrong) → IsUnchanging parts.nodes at → ⊥ in
     let C = All (IsCopy parts) parts.copies in
     let T = (at : Wrong) → IsCommittedTwice parts at → ⊥ in
-    right_both (sooner_of u c) t (U × C) T (HasNodes parts)
+    right_both (sooner_of u c) t (U × C) T (HasPartNodes parts)
     (λ h none. record {
       changes = All-from_recursion (λ (x : Placed). IsSome (change_of x.node)) parts.nodes (changes_all parts.nodes parts.nodes h.0 (λ x one. one));
       copies = h.1;

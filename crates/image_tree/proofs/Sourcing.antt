@@ -13,22 +13,22 @@ use Rattle.bud_log.specs.Buds.{buds_of}
 use Rattle.index_tree.specs.Shape.{contents as leaves_in}
 use Rattle.index_tree.specs.declared.leaf.Leaf.{Leaf}
 use Rattle.index_media.specs.PlacedRow.{plain}
-use Rattle.journal_scan.specs.Content.{content_of, told}
+use Rattle.journal_scan.specs.Content.{node_content_of, told}
 use Rattle.journal_scan.specs.declared.node_content.NodeContent.{NodeContent}
 use Rattle.journal_scan.specs.declared.node_content.NodeContent.TheVariants.{Inode, Entry, Unknown}
-use Rattle.journal_scan.specs.Journal.{BudRead, copies_in, nodes_in}
+use Rattle.journal_scan.specs.Journal.{BudRead, copies_in, journal_nodes_in}
 use Rattle.journal_scan.specs.declared.journal_read.JournalRead.{JournalRead}
 use Rattle.leaf_map.specs.Kept.{Kept, Placed}
 use Rattle.leaf_map.specs.Parts.{Committed, Parts}
-use Rattle.leaf_map.specs.Recovered.{in_order}
+use Rattle.leaf_map.specs.Recovered.{nodes_in_order}
 use Rattle.leaf_recovery.specs.Told.{AreLeavesTold, IsAtLeaf, IsOneNode, WasRead, IsSource}
 use Rattle.leaf_recovery.specs.declared.recovered_leaf.Place.{Place}
 use Rattle.leaf_recovery.specs.declared.recovered_leaf.RecoveredLeaf.{RecoveredLeaf}
-use Rattle.sound_image.specs.Image.{Image, named_by, parts_of}
+use Rattle.sound_image.specs.Image.{Image, named_by_ref_node, parts_of}
 use Rattle.sound_image.specs.Leaves.{AreCommitted, IsFoundAt, IsPlacedIn}
 use Rattle.shown_leaves.specs.Copies.{FoundStands}
 use Rattle.shown_leaves.specs.Sources.{AreSourced, HasSource, IsKnownBlock}
-use Rattle.image_tree.specs.Reads.{IsJournalOf, IsReadOf}
+use Rattle.image_tree.specs.Reads.{IsJournalOfImage, IsTreeReadOf}
 use Rattle.image_tree.specs.Sources.{block_of, source_of, sourced_of}
 use Rattle.image_tree.specs.Trees.{AreNodesTold}
 use Rattle.image_tree.specs.declared.tree_read.TreeRead.{TreeRead}
@@ -75,7 +75,7 @@ entry_here : (node : DentNode) (attribute : Bool) → IsKnownBlock (entry node) 
 entry_here node true = tt
 entry_here node false = tt
 
-block_here : (node : LeafNode) → IsKnownBlock node (block_of (content_of node))
+block_here : (node : LeafNode) → IsKnownBlock node (block_of (node_content_of node))
 block_here (inode node) = inode_here node (is_some (kind_of_bits (bits_of node.mode)))
 block_here (block node) = (node.bytes, refl)
 block_here (entry node) = entry_here node node.attribute
@@ -87,29 +87,29 @@ sourced_all contents parts [] (r ∷ rs) reads h = absurd h
 sourced_all contents parts (x ∷ kept) [] reads h = absurd h
 sourced_all contents parts (x ∷ kept) (r ∷ rs) reads h = (record { is = h.0.leaf; source = source_here contents parts x r.source reads h.0.source; known = (let P : NodeContent → Type 0 = λ k. IsKnownBlock x.node (block_of k) in subst P (sym h.0.content) (block_here x.node)) }, sourced_all contents parts kept rs reads h.1)
 
-module _ (laws : StandingLaws) (contents : ℕ → List ℕ) (leaves : List Leaf) (references : List RefNode) (journal : JournalRead) (image : Image) (read : TreeRead) (s : IsJournalOf contents leaves references journal image) (r : IsReadOf contents image read) where
+module _ (laws : StandingLaws) (contents : ℕ → List ℕ) (leaves : List Leaf) (references : List RefNode) (journal : JournalRead) (image : Image) (read : TreeRead) (s : IsJournalOfImage contents leaves references journal image) (r : IsTreeReadOf contents image read) where
   stand : AllByRecursion (FoundStands contents) image.committed
   stand = committed_stand contents (leaves_in (plain image.placed)) image.committed r.rule.committed
 
   copies : AllByRecursion (IsPlacedIn contents) (copies_in image.buds)
   copies = laws.copies contents (buds_of references) image.buds s.rule
 
-  nodes : AllByRecursion (IsPlacedIn contents) (nodes_in image.buds)
+  nodes : AllByRecursion (IsPlacedIn contents) (journal_nodes_in image.buds)
   nodes = laws.nodes contents (buds_of references) image.buds s.rule
 
   pub reads_here : (node : Placed) → WasRead (parts_of image) node → IsPlacedIn contents node
   reads_here node (inl is) = at_leaf contents node image.committed stand is
-  reads_here node (inr (inl is)) = one_node (IsPlacedIn contents) node (nodes_in image.buds) nodes is
+  reads_here node (inr (inl is)) = one_node (IsPlacedIn contents) node (journal_nodes_in image.buds) nodes is
   reads_here node (inr (inr is)) = one_node (IsPlacedIn contents) node (copies_in image.buds) copies is
 
   pub nodes_told : AreNodesTold contents (parts_of image) leaves references read.committed.items journal
   nodes_told = record {
     parts_told = record {
-      leaves = record { log = ap (map named_by) (sym s.references_are); told_leaves = r.told; stand = stand };
+      leaves = record { log = ap (map named_by_ref_node) (sym s.references_are); told_leaves = r.told; stand = stand };
       told_copies = subst (λ (reads : List BudRead). journal.copies.items ≡ map told (copies_in reads)) s.buds s.read.copies;
       stand = copies;
     };
-    nodes_told = subst (λ (reads : List BudRead). journal.nodes.items ≡ map told (in_order (nodes_in reads))) s.buds s.read.nodes;
-    leaf_nodes = laws.grammar contents (nodes_in image.buds) nodes;
+    nodes_told = subst (λ (reads : List BudRead). journal.nodes.items ≡ map told (nodes_in_order (journal_nodes_in reads))) s.buds s.read.nodes;
+    leaf_nodes = laws.grammar contents (journal_nodes_in image.buds) nodes;
     leaves_are = s.leaves_are ∙ leaves_are contents (leaves_in (plain image.placed)) image.committed r.rule.committed;
   }

@@ -10,23 +10,23 @@ use Rattle.index_tree.specs.Shape.{contents as leaves_in}
 use Rattle.index_tree.specs.declared.leaf.Leaf.{Leaf}
 use Rattle.index_media.specs.PlacedRow.{are_disjoint, branch_to, plain}
 use Rattle.journal_scan.specs.Content.{told}
-use Rattle.journal_scan.specs.Journal.{BudRead, copies_in, nodes_in}
+use Rattle.journal_scan.specs.Journal.{BudRead, copies_in, journal_nodes_in}
 use Rattle.leaf_map.specs.Kept.{Kept}
 use Rattle.leaf_map.specs.Lost.{missing_leaves}
 use Rattle.leaf_map.specs.Parts.{Parts}
-use Rattle.leaf_map.specs.Recovered.{in_order, recovered_of}
+use Rattle.leaf_map.specs.Recovered.{nodes_in_order, recovered_of}
 use Rattle.leaf_recovery.specs.Told.{AreTold, AreLeavesTold, IsRecoveredFrom}
 use Rattle.leaf_recovery.specs.declared.recovered_leaf.RecoveredLeaf.{RecoveredLeaf}
 use Rattle.leaf_recovery.specs.declared.recovered_leaf.RecoveredLeaves.{RecoveredLeaves}
 use Rattle.sound_image.specs.Breaches.{IsBrokenLeaf}
-use Rattle.sound_image.specs.Image.{Image, named_by, parts_of}
+use Rattle.sound_image.specs.Image.{Image, named_by_ref_node, parts_of}
 use Rattle.sound_image.specs.LeafBreaches.{IsWrongOfLeaves}
 use Rattle.sound_image.specs.Leaves.{AreCommitted, IsSoundLeaf, leaves_recovered}
 use Rattle.sound_image.specs.Wrong.{IsFirstWrong, Wrong}
 use Rattle.sound_image.specs.declared.rule.Rule.TheVariants as rules
 use Rattle.image_check.specs.Told.{IsBreachOf, TellsBreach}
 use Rattle.image_check.specs.declared.fault.CheckFault.{CheckFault}
-use Rattle.image_tree.specs.Reads.{AreLeavesMet, IsReadOfSome, IsReadSoFar, IsTreeTold, ReadBefore, leaves_told, with_leaves}
+use Rattle.image_tree.specs.Reads.{AreLeavesMet, IsReadOfSome, IsImageReadSoFar, IsTreeTold, ReadBefore, leaves_told, with_leaves}
 use Rattle.image_tree.specs.declared.tree_read.TreeRead.{TreeRead}
 use Rattle.image_tree.proofs.Judging.{breach_more}
 use Rattle.image_tree.proofs.StandingNodes.{StandingLaws}
@@ -43,19 +43,19 @@ leaves_same parts made r =
     ap (λ (ls : List Leaf). ls ++ made.empty.items) (places_same parts (recovered_of parts).kept made.kept.items r.kept)
     ∙ ap (λ (ls : List Leaf). map (λ x. x.leaf) (recovered_of parts).kept ++ ls) r.empty
 
-module _ (laws : StandingLaws) (contents : ℕ → List ℕ) (before : ReadBefore) (image : Image) (read : TreeRead) (s : IsReadSoFar contents before image) (t : IsTreeTold contents before.geo before.leaves before.references before.journal read) where
+module _ (laws : StandingLaws) (contents : ℕ → List ℕ) (before : ReadBefore) (image : Image) (read : TreeRead) (s : IsImageReadSoFar contents before image) (t : IsTreeTold contents before.geo before.leaves before.references before.journal read) where
   abbrev whole : Image
   whole = with_leaves image t.committed read.listed.items
 
   are_told : AreTold (parts_of whole) read.committed.items before.references before.journal.nodes.items before.journal.copies.items read.listed.items
   are_told = record {
     of_leaves = t.told;
-    of_references = ap (map named_by) (sym s.said.references_are);
-    of_nodes = subst (λ (reads : List BudRead). before.journal.nodes.items ≡ map told (in_order (nodes_in reads))) s.said.buds s.said.read.nodes;
+    of_references = ap (map named_by_ref_node) (sym s.said.references_are);
+    of_nodes = subst (λ (reads : List BudRead). before.journal.nodes.items ≡ map told (nodes_in_order (journal_nodes_in reads))) s.said.buds s.said.read.nodes;
     of_copies = subst (λ (reads : List BudRead). before.journal.copies.items ≡ map told (copies_in reads)) s.said.buds s.said.read.copies;
     of_list = refl;
     leaf_nodes = t.grammar;
-    node_nodes = laws.grammar contents (nodes_in image.buds) (laws.nodes contents (buds_of before.references) image.buds s.said.rule);
+    node_nodes = laws.grammar contents (journal_nodes_in image.buds) (laws.nodes contents (buds_of before.references) image.buds s.said.rule);
     copy_nodes = laws.grammar contents (copies_in image.buds) (laws.copies contents (buds_of before.references) image.buds s.said.rule);
   }
 

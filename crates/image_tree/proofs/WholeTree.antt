@@ -12,7 +12,7 @@ use Rattle.sound_image.specs.Wrong.{Wrong}
 use Rattle.image_check.specs.FirstLaws.{first_of_both, first_same}
 use Rattle.image_check.specs.WrongValues.{IsFirstOf, sooner_of}
 use Rattle.image_check.specs.declared.wrong_value.WrongValue.{WrongValue}
-use Rattle.image_tree.specs.Trees.{AreWellPlaced, HasNodes, IsNamedIn, IsWrongPlaced}
+use Rattle.image_tree.specs.Trees.{AreWellPlaced, HasPartNodes, IsNamedIn, IsWrongPlaced}
 use Rattle.image_tree.proofs.Members.{IsAtOne, none_wrong, right_both}
 use Rattle.image_tree.proofs.NamedLeaves.{no_empty, wrong_empty, wrong_named}
 use Rattle.image_tree.proofs.RepeatedLeaves.{all_apart, repeated, repeats}
@@ -63,10 +63,10 @@ module _ (contents : ℕ → List ℕ) (master : Master) (parts : Parts) where
       (first_of_both (λ at. Nodes at ⊎ (Repeated at ⊎ Empty at)) Placed (sooner_of n (sooner_of r e)) k
       (first_of_both Nodes (λ at. Repeated at ⊎ Empty at) n (sooner_of r e) first_n (first_of_both Repeated Empty r e first_r first_e)) first_k)
 
-  pub tree_right : (n r e k : Option WrongValue) → IfNone n (HasNodes parts) → IsFirstOf Repeated r → IsFirstOf Empty e → IfNone k (AreWellPlaced contents (recovered_of parts).kept (tree_found parts))
+  pub tree_right : (n r e k : Option WrongValue) → IfNone n (HasPartNodes parts) → IsFirstOf Repeated r → IsFirstOf Empty e → IfNone k (AreWellPlaced contents (recovered_of parts).kept (tree_found parts))
       → IfNone (sooner_of (sooner_of n (sooner_of r e)) k) (HasTree contents parts)
   tree_right n r e k nodes first_r first_e placed =
-      let N = HasNodes parts in
+      let N = HasPartNodes parts in
       let R = (at : Wrong) → Repeated at → ⊥ in
       let E = (at : Wrong) → Empty at → ⊥ in
       let K = AreWellPlaced contents (recovered_of parts).kept (tree_found parts) in

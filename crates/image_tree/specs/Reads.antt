@@ -32,7 +32,7 @@ pub record ReadBefore : Type 0 where
   pub journal : JournalRead
 
 -- the leaves of the index, the references and what the buds say are those of this image, whose buds meet their rule
-pub record IsJournalOf (contents : ℕ → List ℕ) (leaves : List Leaf) (references : List RefNode) (journal : JournalRead) (image : Image) : Type 0 where
+pub record IsJournalOfImage (contents : ℕ → List ℕ) (leaves : List Leaf) (references : List RefNode) (journal : JournalRead) (image : Image) : Type 0 where
   pub leaves_are : leaves ≡ leaves_in (plain image.placed)
   pub references_are : references ≡ references_of image.log
   pub rule : HasBuds contents (buds_of references) image.buds
@@ -40,17 +40,17 @@ pub record IsJournalOf (contents : ℕ → List ℕ) (leaves : List Leaf) (refer
   pub buds : read.reads ≡ image.buds
 
 -- the checks before have answered this of this image
-pub record IsReadSoFar (contents : ℕ → List ℕ) (before : ReadBefore) (image : Image) : Type 0 where
+pub record IsImageReadSoFar (contents : ℕ → List ℕ) (before : ReadBefore) (image : Image) : Type 0 where
   pub geo : image.geo ≡ before.geo
   pub props : image.props ≡ before.props
-  pub said : IsJournalOf contents before.leaves before.references before.journal image
+  pub said : IsJournalOfImage contents before.leaves before.references before.journal image
 
 -- an image with these committed leaves and this list of orphans
 abbrev pub with_leaves : Image → List Committed → List ℕ → Image
 with_leaves image committed listed = record image { committed = committed; listed = listed }
 
 -- This was read of an image that meets the rule on leaves, and recovered of its parts.
-pub record IsReadOf (contents : ℕ → List ℕ) (image : Image) (read : TreeRead) : Type 0 where
+pub record IsTreeReadOf (contents : ℕ → List ℕ) (image : Image) (read : TreeRead) : Type 0 where
   pub told : read.committed.items ≡ map told_committed image.committed
   pub listed : read.listed.items ≡ image.listed
   pub rule : HasLeaves contents image
@@ -59,7 +59,7 @@ pub record IsReadOf (contents : ℕ → List ℕ) (image : Image) (read : TreeRe
 -- it was read of this image, with some committed leaves; the checks before have read the same
 abbrev pub IsReadOfSome : (ℕ → List ℕ) → ReadBefore → Image → TreeRead → Type 0
 IsReadOfSome contents before image read =
-    (committed : List Committed) × IsReadSoFar contents before (with_leaves image committed read.listed.items) × IsReadOf contents (with_leaves image committed read.listed.items) read
+    (committed : List Committed) × IsImageReadSoFar contents before (with_leaves image committed read.listed.items) × IsTreeReadOf contents (with_leaves image committed read.listed.items) read
 
 -- these committed leaves and orphans were read, and this is recovered of all parts of which they and the journal are told
 pub record IsTreeTold (contents : ℕ → List ℕ) (geo : RawGeometry) (leaves : List Leaf) (references : List RefNode) (journal : JournalRead) (read : TreeRead) : Type 0 where

@@ -11,9 +11,9 @@ use Rattle.journal_scan.specs.Content.{told}
 use Rattle.journal_scan.specs.declared.journal_read.JournalRead.{JournalRead}
 use Rattle.leaf_map.specs.Kept.{Kept, Placed}
 use Rattle.leaf_map.specs.Parts.{Parts}
-use Rattle.leaf_map.specs.Recovered.{in_order}
+use Rattle.leaf_map.specs.Recovered.{nodes_in_order}
 use Rattle.log_replay.specs.declared.committed_leaf.CommittedLeaf.{CommittedLeaf}
-use Rattle.sound_image.specs.Breaches.{IsAtNode, number_of}
+use Rattle.sound_image.specs.Breaches.{IsAtNode, inode_number_of}
 use Rattle.sound_image.specs.Tree.{IsCopy, ShowsItsNode}
 use Rattle.sound_image.specs.Wrong.{IsOneOf, Wrong, differs}
 use Rattle.shown_leaves.specs.Copies.{ArePartsTold}
@@ -23,19 +23,19 @@ use Rattle.tree_check.specs.Places.{AreInPlace, IsOutOfPlaceAt}
 -- these are told of nodes, copies and committed leaves that stand in the volume
 pub record AreNodesTold (contents : ℕ → List ℕ) (parts : Parts) (leaves : List Leaf) (references : List RefNode) (committed : List CommittedLeaf) (journal : JournalRead) : Type 0 where
   pub parts_told : ArePartsTold contents parts references committed journal.copies.items
-  pub nodes_told : journal.nodes.items ≡ map told (in_order parts.nodes)
+  pub nodes_told : journal.nodes.items ≡ map told (nodes_in_order parts.nodes)
   pub leaf_nodes : AllByRecursion (λ x. IsLeaf x.node) parts.nodes
   pub leaves_are : leaves ≡ map (λ x. x.leaf) parts.committed
 
 -- each node says a change, each of the collector's is a copy, and no committed leaf is there twice
-pub record HasNodes (parts : Parts) : Type 0 where
+pub record HasPartNodes (parts : Parts) : Type 0 where
   pub changes : All (λ (x : Placed). IsSome (change_of x.node)) parts.nodes
   pub copies : All (IsCopy parts) parts.copies
   pub distinct : AreDistinct (map (λ x. x.leaf) parts.committed)
 
 -- this is wrong at one of these leaves, where the number by which it is named is wanted
 abbrev pub IsNamedIn : List Kept → Wrong → Type 0
-IsNamedIn kept at = (x : Kept) × IsOneOf x kept × IsAtNode x (differs (number_of x) 0) at
+IsNamedIn kept at = (x : Kept) × IsOneOf x kept × IsAtNode x (differs (inode_number_of x) 0) at
 
 -- one of these leaves doesn't show what stands at its place, or is out of its place, or there is no inode 1
 abbrev pub IsWrongPlaced : (ℕ → List ℕ) → List Kept → Tree → ℕ × ℕ → Wrong → Type 0

@@ -11,7 +11,7 @@ ghost use Rattle.sound_image.specs.LeafBreaches.{IsWrongOfLeaves};
 ghost use Rattle.sound_image.specs.Wrong.{IsFirstWrong};
 ghost use Rattle.sound_image.specs.declared.rule.Rule.TheVariants as rules;
 ghost use Rattle.image_check.specs.Told.{HasCheckCause, IsBreachOf, StaysSureCheck, TellsBreach};
-ghost use Rattle.image_tree.specs.Reads.{AreLeavesMet, IsReadOfSome, IsReadSoFar, leaves_told};
+ghost use Rattle.image_tree.specs.Reads.{AreLeavesMet, IsReadOfSome, IsImageReadSoFar, leaves_told};
 
 use crate::reading::{leaves_of, read_tree};
 use crate::recovered_tree::RecoveredTree;
@@ -45,8 +45,8 @@ pub fn check_recovered<R: Threads + Sync, V: Volume>(
     journal: &JournalRead,
 ) -> Result<TreeRead, CheckFault>
     requires geometry { IsGeometryOf (raw_of geometry.now) (V.state volume.old) }
-    ensures met { IfOk result (λ read. (image : Image) → IsReadSoFar (V.state volume.old).holds (record { geo = raw_of geometry.now; props = props.now; leaves = leaves.now; references = references.now; journal = journal.now }) image → IsReadOfSome (V.state volume.old).holds (record { geo = raw_of geometry.now; props = props.now; leaves = leaves.now; references = references.now; journal = journal.now }) image read) }
-    ensures broken { IfErr result (λ fault. (image : Image) → IsReadSoFar (V.state volume.old).holds (record { geo = raw_of geometry.now; props = props.now; leaves = leaves.now; references = references.now; journal = journal.now }) image → TellsBreach (IsBreachOf rules.Leaves (IsBrokenLeaf (V.state volume.old).holds image)) fault) }
+    ensures met { IfOk result (λ read. (image : Image) → IsImageReadSoFar (V.state volume.old).holds (record { geo = raw_of geometry.now; props = props.now; leaves = leaves.now; references = references.now; journal = journal.now }) image → IsReadOfSome (V.state volume.old).holds (record { geo = raw_of geometry.now; props = props.now; leaves = leaves.now; references = references.now; journal = journal.now }) image read) }
+    ensures broken { IfErr result (λ fault. (image : Image) → IsImageReadSoFar (V.state volume.old).holds (record { geo = raw_of geometry.now; props = props.now; leaves = leaves.now; references = references.now; journal = journal.now }) image → TellsBreach (IsBreachOf rules.Leaves (IsBrokenLeaf (V.state volume.old).holds image)) fault) }
     ensures keeps { Keeps (V.state volume.old) (V.state volume.new) × SameShape (V.state volume.old) (V.state volume.new) }
     ensures cause { HasCheckCause (V.state volume.old).faults (V.state volume.new).faults result }
     ensures sure { StaysSureCheck (V.state volume.old) (V.state volume.new) result }

@@ -17,8 +17,8 @@ ghost use Rattle.image_check.specs.WrongValues.{IsFirstOf};
 ghost use Rattle.shown_leaves.specs.Sources.{AreSourced};
 ghost use Rattle.tree_check.specs.Told.{AreShownBy};
 ghost use Rattle.image_tree.specs.Judged.{IsJudged};
-ghost use Rattle.image_tree.specs.Reads.{IsJournalOf, IsReadOf};
-ghost use Rattle.image_tree.specs.Trees.{AreNodesTold, AreWellPlaced, HasNodes, IsNamedIn, IsWrongPlaced};
+ghost use Rattle.image_tree.specs.Reads.{IsJournalOfImage, IsTreeReadOf};
+ghost use Rattle.image_tree.specs.Trees.{AreNodesTold, AreWellPlaced, HasPartNodes, IsNamedIn, IsWrongPlaced};
 ghost use Rattle.image_tree.specs.Sources.{sourced_of};
 
 use crate::judged::judge;
@@ -54,8 +54,8 @@ pub fn check_tree<V: Volume>(
     journal: &JournalRead,
     read: &TreeRead,
 ) -> Result<Vec<ShownLeaf>, CheckFault>
-    ensures met { IfOk result (λ shown. (image : Image) → IsJournalOf (V.state volume.old).holds leaves.now references.now journal.now image → IsReadOf (V.state volume.old).holds image read.now → HasTree (V.state volume.old).holds (parts_of image) × AreShownBy (recovered_of (parts_of image)).kept shown.items) }
-    ensures broken { IfErr result (λ fault. (image : Image) → IsJournalOf (V.state volume.old).holds leaves.now references.now journal.now image → IsReadOf (V.state volume.old).holds image read.now → TellsBreach (IsBreachOf rules.Tree (IsFirstWrong (IsWrongInTree (V.state volume.old).holds master.now (parts_of image)))) fault) }
+    ensures met { IfOk result (λ shown. (image : Image) → IsJournalOfImage (V.state volume.old).holds leaves.now references.now journal.now image → IsTreeReadOf (V.state volume.old).holds image read.now → HasTree (V.state volume.old).holds (parts_of image) × AreShownBy (recovered_of (parts_of image)).kept shown.items) }
+    ensures broken { IfErr result (λ fault. (image : Image) → IsJournalOfImage (V.state volume.old).holds leaves.now references.now journal.now image → IsTreeReadOf (V.state volume.old).holds image read.now → TellsBreach (IsBreachOf rules.Tree (IsFirstWrong (IsWrongInTree (V.state volume.old).holds master.now (parts_of image)))) fault) }
     ensures keeps { Keeps (V.state volume.old) (V.state volume.new) × SameShape (V.state volume.old) (V.state volume.new) }
     ensures cause { HasCheckCause (V.state volume.old).faults (V.state volume.new).faults result }
     ensures sure { StaysSureCheck (V.state volume.old) (V.state volume.new) result }
@@ -86,9 +86,9 @@ fn find_wrong<V: Volume>(
     journal: &JournalRead,
     read: &TreeRead,
 ) -> Result<TreeFound, AreaFault>
-    ensures shown { IfOk result (λ found. (image : Image) → IsJournalOf (V.state volume.old).holds leaves.now references.now journal.now image → IsReadOf (V.state volume.old).holds image read.now → AreShownBy (recovered_of (parts_of image)).kept found.shown.items) }
-    ensures first { IfOk result (λ found. (image : Image) → IsJournalOf (V.state volume.old).holds leaves.now references.now journal.now image → IsReadOf (V.state volume.old).holds image read.now → IsFirstOf (IsWrongInTree (V.state volume.old).holds master.now (parts_of image)) found.wrong) }
-    ensures right { IfOk result (λ found. (image : Image) → IsJournalOf (V.state volume.old).holds leaves.now references.now journal.now image → IsReadOf (V.state volume.old).holds image read.now → IfNone found.wrong (HasTree (V.state volume.old).holds (parts_of image))) }
+    ensures shown { IfOk result (λ found. (image : Image) → IsJournalOfImage (V.state volume.old).holds leaves.now references.now journal.now image → IsTreeReadOf (V.state volume.old).holds image read.now → AreShownBy (recovered_of (parts_of image)).kept found.shown.items) }
+    ensures first { IfOk result (λ found. (image : Image) → IsJournalOfImage (V.state volume.old).holds leaves.now references.now journal.now image → IsTreeReadOf (V.state volume.old).holds image read.now → IsFirstOf (IsWrongInTree (V.state volume.old).holds master.now (parts_of image)) found.wrong) }
+    ensures right { IfOk result (λ found. (image : Image) → IsJournalOfImage (V.state volume.old).holds leaves.now references.now journal.now image → IsTreeReadOf (V.state volume.old).holds image read.now → IfNone found.wrong (HasTree (V.state volume.old).holds (parts_of image))) }
     ensures keeps { Keeps (V.state volume.old) (V.state volume.new) × SameShape (V.state volume.old) (V.state volume.new) }
     ensures cause { HasAreaCause (V.state volume.old).faults (V.state volume.new).faults result }
     ensures sure { StaysSureArea (V.state volume.old) (V.state volume.new) result }
@@ -123,7 +123,7 @@ fn wrong_node<V: Volume>(
     journal: &JournalRead,
 ) -> Result<Option<WrongValue>, AreaFault>
     ensures first { IfOk result (λ first. (parts : Parts) → AreNodesTold (V.state volume.old).holds parts leaves.now references.now committed.now journal.now → IsFirstOf (λ at. IsWrongNode parts at ⊎ IsCommittedTwice parts at) first) }
-    ensures right { IfOk result (λ first. (parts : Parts) → AreNodesTold (V.state volume.old).holds parts leaves.now references.now committed.now journal.now → IfNone first (HasNodes parts)) }
+    ensures right { IfOk result (λ first. (parts : Parts) → AreNodesTold (V.state volume.old).holds parts leaves.now references.now committed.now journal.now → IfNone first (HasPartNodes parts)) }
     ensures keeps { Keeps (V.state volume.old) (V.state volume.new) × SameShape (V.state volume.old) (V.state volume.new) }
     ensures cause { HasAreaCause (V.state volume.old).faults (V.state volume.new).faults result }
     ensures sure { StaysSureArea (V.state volume.old) (V.state volume.new) result }

@@ -8,7 +8,7 @@ use Rattle.leb_scan.specs.declared.found.Found.{Found}
 use Rattle.leb_scan.specs.declared.item.Item.{Item}
 use Rattle.bud_log.specs.LogText.{Refer, begins_with, is_later, start_of}
 use Rattle.bud_log.specs.References.{text_begins}
-use Rattle.bud_log.specs.RingRuns.{OneText}
+use Rattle.bud_log.specs.RingRuns.{OneLebText}
 use Rattle.bud_log.specs.Seen.{HasBeginning}
 use Rattle.bud_log.specs.Writing.{IsOlder}
 use Rattle.image_check.specs.WrongValues.{IsFirstOf, sooner_of}
@@ -19,7 +19,7 @@ use Rattle.journal_check.specs.declared.seen_leb.SeenLeb.{SeenLeb}
 use Rattle.journal_check.proofs.OneText.{text_seen}
 
 -- it was added to what was read
-pub added : OneText → (geo : RawGeometry) (leb : List ℕ) (lnum : ℕ) (seen : SeenLeb) (old new : ReadLebs) (references : List RefNode) (misnamed torn : Option WrongValue) → IsBytes leb → IsSeenLeb leb seen → AreTaken geo leb lnum old.references.items references misnamed
+pub added : OneLebText → (geo : RawGeometry) (leb : List ℕ) (lnum : ℕ) (seen : SeenLeb) (old new : ReadLebs) (references : List RefNode) (misnamed torn : Option WrongValue) → IsBytes leb → IsSeenLeb leb seen → AreTaken geo leb lnum old.references.items references misnamed
     → new.lnums.items ≡ old.lnums.items ++ lnum ∷ [] → new.references.items ≡ references → new.misnamed ≡ sooner_of old.misnamed misnamed → torn ≡ torn_behind old.tail lnum leb (start_of seen.begins) → new.torn ≡ sooner_of old.torn torn
     → new.last ≡ lnum → new.tail ≡ seen.tail → new.alone ≡ seen.alone → IsAddedTo geo leb lnum seen old new
 added one geo leb lnum seen old new references misnamed torn fits s t lnums refs misnamed_is torn_is new_torn last tail alone =

@@ -15,10 +15,10 @@ use Rattle.leb_scan.specs.declared.tail.Tail.{Tail}
 use Rattle.leb_scan.specs.declared.tail.Tail.TheVariants.{Clean, Torn}
 use Rattle.small_areas.specs.declared.misplaced.Misplaced.{Misplaced}
 use Rattle.bud_log.specs.Log.{IsLogLeb, Run, next_leb, references_of}
-use Rattle.bud_log.specs.LogText.{BeginsCommit, IsReferenceAt, IsTextOf, LogText, Refer, begins_with, is_later, start_of}
+use Rattle.bud_log.specs.LogText.{BeginsCommit, IsReferenceAt, IsLogTextOf, LogText, Refer, begins_with, is_later, start_of}
 use Rattle.bud_log.specs.OneTextLaws.{one_log_text}
-use Rattle.bud_log.specs.References.{OneNode, one_commit}
-use Rattle.bud_log.specs.RingRuns.{OneText}
+use Rattle.bud_log.specs.References.{OneSystemNode, one_commit}
+use Rattle.bud_log.specs.RingRuns.{OneLebText}
 use Rattle.bud_log.specs.Writing.{IsAmong, IsOlder}
 use Rattle.sound_image.specs.Log.{EndWhole, NamesMain, ends_in_start}
 use Rattle.sound_image.specs.LogBreaches.{HasNoneSpare, IsBrokenIn, IsTornWithin, LacksItsStart, LooksNewer, NamesNoMain, misnamed, uneven}
@@ -49,7 +49,7 @@ differs_same : (a b c d : ℕ) → a ≡ c → b ≡ d → differs a b ≡ diffe
 differs_same a b c d e f = ap (λ (n : ℕ). differs n b) e ∙ ap (differs c) f
 
 -- the start is missing, or another commit's
-pub start_wrong : OneNode → OneText → (contents : ℕ → List ℕ) (geo : RawGeometry) (master : Master) (text : LogText) (begins : Option Found) (at : WrongValue) → IsBytes (contents master.log_lnum) → IsTextOf (contents master.log_lnum) master.log_lnum text
+pub start_wrong : OneSystemNode → OneLebText → (contents : ℕ → List ℕ) (geo : RawGeometry) (master : Master) (text : LogText) (begins : Option Found) (at : WrongValue) → IsBytes (contents master.log_lnum) → IsLogTextOf (contents master.log_lnum) master.log_lnum text
     → begins ≡ begins_with text.nodes → IsOtherStart (contents master.log_lnum) master.log_lnum begins master.cmt_no at → IsJudgedLog contents geo master (Broken at)
 start_wrong one unique contents geo master text begins at fits is_text begins_is h = inl (by h.wrong)
   where
@@ -94,7 +94,7 @@ start_wrong one unique contents geo master text begins at fits is_text begins_is
         ]))
 
 -- nothing is wrong with it
-start_right : OneNode → OneText → (contents : ℕ → List ℕ) (master : Master) (text : LogText) (number : ℕ) → IsBytes (contents master.log_lnum) → IsTextOf (contents master.log_lnum) master.log_lnum text → start_of (begins_with text.nodes) ≡ Some number
+start_right : OneSystemNode → OneLebText → (contents : ℕ → List ℕ) (master : Master) (text : LogText) (number : ℕ) → IsBytes (contents master.log_lnum) → IsLogTextOf (contents master.log_lnum) master.log_lnum text → start_of (begins_with text.nodes) ≡ Some number
     → BeginsCommit (contents master.log_lnum) (begins_with text.nodes) (Some master.cmt_no) → (at : Wrong) → LacksItsStart contents master at → ⊥
 start_right one unique contents master text number fits is_text start is at k =
     let from = master.log_lnum in
@@ -110,10 +110,10 @@ start_right one unique contents master text number fits is_text start is at k =
 -- ---- the second part: references
 -- each text is that of its LEB
 abbrev AreTexts : (ℕ → List ℕ) → List LogText → Type 0
-AreTexts contents texts = AllByRecursion (λ (text : LogText). IsTextOf (contents text.ends.lnum) text.ends.lnum text) texts
+AreTexts contents texts = AllByRecursion (λ (text : LogText). IsLogTextOf (contents text.ends.lnum) text.ends.lnum text) texts
 
-text_there : (contents : ℕ → List ℕ) (lnum : ℕ) (text : LogText) → IsTextOf (contents lnum) lnum text → IsTextOf (contents text.ends.lnum) text.ends.lnum text
-text_there contents lnum text is = let P : ℕ → Type 0 = λ n. IsTextOf (contents n) n text in subst P (sym is.here) is
+text_there : (contents : ℕ → List ℕ) (lnum : ℕ) (text : LogText) → IsLogTextOf (contents lnum) lnum text → IsLogTextOf (contents text.ends.lnum) text.ends.lnum text
+text_there contents lnum text is = let P : ℕ → Type 0 = λ n. IsLogTextOf (contents n) n text in subst P (sym is.here) is
 
 texts_of_run : (contents : ℕ → List ℕ) (geo : RawGeometry) (from number lnum past : ℕ) (texts : List LogText) → Run contents geo from number lnum texts past → AreTexts contents texts
 texts_of_run contents geo from number lnum past [] h = tt
@@ -258,7 +258,7 @@ told_by contents geo number texts None None (Some a) newer h1 h2 h3 h4 = inr (h1
 told_by contents geo number texts None None None (Some a) h1 h2 h3 h4 = inr (h1, inr (h2, inr (h3, h4)))
 told_by contents geo number texts None None None None h1 h2 h3 h4 = (h1, h2, h3, h4)
 
-pub judged : OneNode → OneText → (contents : ℕ → List ℕ) (geo : RawGeometry) (master : Master) (number : ℕ) (read : ReadLebs) (newer : Option WrongValue) (text : LogText) → IsBytes (contents master.log_lnum) → IsTextOf (contents master.log_lnum) master.log_lnum text
+pub judged : OneSystemNode → OneLebText → (contents : ℕ → List ℕ) (geo : RawGeometry) (master : Master) (number : ℕ) (read : ReadLebs) (newer : Option WrongValue) (text : LogText) → IsBytes (contents master.log_lnum) → IsLogTextOf (contents master.log_lnum) master.log_lnum text
     → BeginsCommit (contents master.log_lnum) (begins_with text.nodes) (Some master.cmt_no) → IsReadWhole contents geo master.log_lnum number read → IsFirstNewer contents geo number read.lnums.items newer → IsJudgedLog contents geo master (verdict_of geo read newer)
 judged one unique contents geo master number read newer text fits is_text commit h newest = by (first_broken geo read newer) refl
   where

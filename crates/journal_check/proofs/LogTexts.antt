@@ -12,7 +12,7 @@ use Rattle.bud_log.specs.RingRuns.{references_then, run_then}
 use Rattle.sound_image.specs.Log.{ends_in_start}
 use Rattle.sound_image.specs.LogBreaches.{IsTornWithin, NamesNoMain}
 use Rattle.sound_image.specs.Wrong.{IsOneOf, Wrong, differs, type_byte}
-use Rattle.sound_image.specs.WrongLaws.{first_or_behind, head_of, back_of_two, one_of_two, front_of_two, one_of_none}
+use Rattle.sound_image.specs.WrongLaws.{first_or_behind, first_of_equal, back_of_two, one_of_two, front_of_two, one_of_none}
 use Rattle.image_check.specs.WrongValues.{IsFirstOf, sooner_of}
 use Rattle.journal_check.specs.LogChecks.{IsAddedTo, IsFresh, IsMisnamedAmong, IsReadAs, IsReadUpTo, IsReadWhole, last_lnum, last_tail, torn_behind}
 use Rattle.image_check.specs.declared.wrong_value.WrongValue.{WrongValue}
@@ -83,16 +83,16 @@ none_is_some x (y ∷ before) behind h = absurd cc
 
 split_last : (texts : List LogText) (text : LogText) (before : List LogText) (a b : LogText) (behind : List LogText) → texts ++ text ∷ [] ≡ before ++ (a ∷ (b ∷ behind))
     → ((rest : List LogText) × (texts ≡ before ++ (a ∷ (b ∷ rest)))) ⊎ ((texts ≡ before ++ a ∷ []) × (b ≡ text))
-split_last [] text [] a b behind h = absurd (none_is_some b [] behind (head_of text a [] (b ∷ behind) h).1)
-split_last [] text (z ∷ before) a b behind h = absurd (none_is_some a before (b ∷ behind) (head_of text z [] (before ++ (a ∷ (b ∷ behind))) h).1)
+split_last [] text [] a b behind h = absurd (none_is_some b [] behind (first_of_equal text a [] (b ∷ behind) h).1)
+split_last [] text (z ∷ before) a b behind h = absurd (none_is_some a before (b ∷ behind) (first_of_equal text z [] (before ++ (a ∷ (b ∷ behind))) h).1)
 split_last (x ∷ []) text [] a b behind h =
-    let parts = head_of x a (text ∷ []) (b ∷ behind) h in
-    inr (ap (λ (z : LogText). z ∷ []) parts.0, sym (head_of text b [] behind parts.1).0)
+    let parts = first_of_equal x a (text ∷ []) (b ∷ behind) h in
+    inr (ap (λ (z : LogText). z ∷ []) parts.0, sym (first_of_equal text b [] behind parts.1).0)
 split_last (x ∷ (y ∷ more)) text [] a b behind h =
-    let parts = head_of x a (y ∷ (more ++ text ∷ [])) (b ∷ behind) h in
-    inl (more, ap (λ (z : LogText). z ∷ (y ∷ more)) parts.0 ∙ ap (λ (z : LogText). a ∷ (z ∷ more)) (head_of y b (more ++ text ∷ []) behind parts.1).0)
+    let parts = first_of_equal x a (y ∷ (more ++ text ∷ [])) (b ∷ behind) h in
+    inl (more, ap (λ (z : LogText). z ∷ (y ∷ more)) parts.0 ∙ ap (λ (z : LogText). a ∷ (z ∷ more)) (first_of_equal y b (more ++ text ∷ []) behind parts.1).0)
 split_last (x ∷ texts) text (z ∷ before) a b behind h =
-    let parts = head_of x z (texts ++ text ∷ []) (before ++ (a ∷ (b ∷ behind))) h in
+    let parts = first_of_equal x z (texts ++ text ∷ []) (before ++ (a ∷ (b ∷ behind))) h in
     elim (split_last texts text before a b behind parts.1) [
       | inl (rest, e) ↦ inl (rest, ap (λ (w : LogText). w ∷ texts) parts.0 ∙ ap (λ (w : List LogText). z ∷ w) e)
       | inr (e, same) ↦ inr (ap (λ (w : LogText). w ∷ texts) parts.0 ∙ ap (λ (w : List LogText). z ∷ w) e, same)

@@ -9,10 +9,10 @@ use Rattle.ubifs_base.specs.declared.raw_geometry.RawGeometry.{RawGeometry}
 use Rattle.leb_scan.specs.Text.{nodes_of}
 use Rattle.leb_scan.specs.declared.found.Found.{Found}
 use Rattle.bud_log.specs.Log.{IsLogLeb}
-use Rattle.bud_log.specs.LogText.{IsTextOf, LogText, begins_with}
+use Rattle.bud_log.specs.LogText.{IsLogTextOf, LogText, begins_with}
 use Rattle.bud_log.specs.OneTextLaws.{one_log_text}
-use Rattle.bud_log.specs.References.{OneNode}
-use Rattle.bud_log.specs.RingRuns.{OneText}
+use Rattle.bud_log.specs.References.{OneSystemNode}
+use Rattle.bud_log.specs.RingRuns.{OneLebText}
 use Rattle.bud_log.specs.Writing.{IsAmong}
 use Rattle.sound_image.specs.LogBreaches.{LooksNewer}
 use Rattle.sound_image.specs.Wrong.{Misfit, Wrong, differs}
@@ -86,11 +86,11 @@ wrong_same : (l m o p : ℕ) (x y : Misfit) → l ≡ m → o ≡ p → x ≡ y
 wrong_same l m o p x y e f g = rw (e, f, g) refl
 
 -- in one LEB
-one_newer : OneNode → OneText → (contents : ℕ → List ℕ) (geo : RawGeometry) (number : ℕ) (texts : List LogText) (lnum : ℕ) (seen : SeenLeb) → IsBytes (contents lnum) → IsLogLeb geo lnum → (IsAmong lnum texts → ⊥) → IsSeenLeb (contents lnum) seen
+one_newer : OneSystemNode → OneLebText → (contents : ℕ → List ℕ) (geo : RawGeometry) (number : ℕ) (texts : List LogText) (lnum : ℕ) (seen : SeenLeb) → IsBytes (contents lnum) → IsLogLeb geo lnum → (IsAmong lnum texts → ⊥) → IsSeenLeb (contents lnum) seen
     → IsFirstOf (λ at. LooksNewer contents geo number texts at × (at.lnum ≡ lnum)) (newer_at number lnum seen.begins)
 one_newer one unique contents geo number texts lnum seen fits in_log not_among is = by seen.begins refl
   where
-    text : (t : LogText) × IsTextOf (contents lnum) lnum t × (t.nodes ≡ nodes_of is.items)
+    text : (t : LogText) × IsLogTextOf (contents lnum) lnum t × (t.nodes ≡ nodes_of is.items)
     text = text_seen (contents lnum) lnum seen is
 
     begins_is : seen.begins ≡ begins_with text.0.nodes
@@ -98,7 +98,7 @@ one_newer one unique contents geo number texts lnum seen fits in_log not_among i
 
     same_begins : (at : Wrong) (w : LooksNewer contents geo number texts at) → at.lnum ≡ lnum → seen.begins ≡ Some w.found
     same_begins at w e =
-        let P : ℕ → Type 0 = λ n. IsTextOf (contents n) n w.text in
+        let P : ℕ → Type 0 = λ n. IsLogTextOf (contents n) n w.text in
         begins_is ∙ ap (λ (t : LogText). begins_with t.nodes) (one_log_text one unique (contents lnum) lnum text.0 w.text fits text.1 (subst P e w.is_text)) ∙ w.begins
 
     by : (begins : Option Found) → seen.begins ≡ begins → IsFirstOf (λ at. LooksNewer contents geo number texts at × (at.lnum ≡ lnum)) (newer_at number lnum begins)
@@ -123,7 +123,7 @@ one_newer one unique contents geo number texts lnum seen fits in_log not_among i
         ]
 
 -- a LEB that wasn't read
-pub newer_next : OneNode → OneText → (contents : ℕ → List ℕ) (geo : RawGeometry) (number : ℕ) (lnums : List ℕ) (lnum : ℕ) (first newer next : Option WrongValue) (seen : SeenLeb) → IsBytes (contents lnum) → IsLogLeb geo lnum → list_any (λ k. k == lnum) lnums ≡ false
+pub newer_next : OneSystemNode → OneLebText → (contents : ℕ → List ℕ) (geo : RawGeometry) (number : ℕ) (lnums : List ℕ) (lnum : ℕ) (first newer next : Option WrongValue) (seen : SeenLeb) → IsBytes (contents lnum) → IsLogLeb geo lnum → list_any (λ k. k == lnum) lnums ≡ false
     → IsSeenLeb (contents lnum) seen → newer ≡ newer_at number lnum seen.begins → next ≡ sooner_of first newer → IsNewerSoFar contents geo number lnums lnum first → IsNewerSoFar contents geo number lnums (lnum + 1) next
 newer_next one unique contents geo number lnums lnum first newer next seen fits in_log not is newer_is next_is h = record {
   least = λ texts e.

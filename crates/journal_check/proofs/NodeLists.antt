@@ -6,11 +6,11 @@ use Rattle.leb_scan.specs.declared.found.Found.{Found}
 use Rattle.leb_scan.specs.declared.tail.Tail.{Tail}
 use Rattle.leb_scan.specs.Text.{IsLast, tail_at}
 use Rattle.leb_scan.specs.Gathered.{IsGathered, gathered_end}
-use Rattle.bud_log.specs.LogText.{first_of, at_start, begins_with, others, is_one_start, is_start_alone}
+use Rattle.bud_log.specs.LogText.{first_found_node, at_start, begins_with, others, is_one_start, is_start_alone}
 use Rattle.bud_log.specs.Seen.{earlier_of}
 use Rattle.journal_check.specs.LogChecks.{IsSeenLeb}
 
-first_behind : (nodes : List Found) (found : Found) → first_of (nodes ++ found ∷ []) ≡ earlier_of (first_of nodes) found
+first_behind : (nodes : List Found) (found : Found) → first_found_node (nodes ++ found ∷ []) ≡ earlier_of (first_found_node nodes) found
 first_behind [] found = refl
 first_behind (first ∷ nodes) found = refl
 
@@ -37,7 +37,7 @@ others_more nodes found is = filter-append (λ (f : Found). not (type_number f.k
 
 -- what the loop over a text keeps
 pub record IsSoFar (nodes : List Found) (first : Option Found) (empty alone : Bool) : Type 0 where
-  pub first_is : first ≡ first_of nodes
+  pub first_is : first ≡ first_found_node nodes
   pub empty_is : empty ≡ is_none (others nodes)
   pub alone_is : alone ≡ is_start_alone nodes
 

@@ -11,7 +11,7 @@ use Rattle.leb_scan.specs.declared.found.Found.{Found}
 use Rattle.small_areas.specs.declared.misplaced.Misplaced.{Misplaced}
 use Rattle.bud_log.specs.LogText.{IsReferenceAt, Refer}
 use Rattle.bud_log.specs.OneTextLaws.{one_reference}
-use Rattle.bud_log.specs.References.{OneNode, refer_then}
+use Rattle.bud_log.specs.References.{OneSystemNode, refer_then}
 use Rattle.sound_image.specs.LogBreaches.{misnamed}
 use Rattle.sound_image.specs.Wrong.{Wrong, differs}
 use Rattle.sound_image.specs.WrongLaws.{first_or_behind, back_of_two, one_of_two, front_of_two, one_of_none}
@@ -39,7 +39,7 @@ the_one : (geo : RawGeometry) (leb : List ℕ) (lnum : ℕ) (found : Found) (at 
 the_one geo leb lnum found at w = elim (first_or_behind w.found found [] w.stands) [ inl e ↦ e | inr more ↦ absurd (one_of_none w.found more) ]
 
 -- of one reference alone, what is wrong is one thing
-one_misnamed : OneNode → (geo : RawGeometry) (leb : List ℕ) (lnum : ℕ) (found : Found) (node : RefNode) → IsBytes leb → found.kind ≡ types.Reference → IsReferenceAt leb found node
+one_misnamed : OneSystemNode → (geo : RawGeometry) (leb : List ℕ) (lnum : ℕ) (found : Found) (node : RefNode) → IsBytes leb → found.kind ≡ types.Reference → IsReferenceAt leb found node
     → IsFirstOf (IsMisnamedAmong geo leb lnum (found ∷ [])) (differing_at lnum found.offs (misnamed geo node))
 one_misnamed one geo leb lnum found node fits kind is = by (misnamed geo node) refl
   where
@@ -81,7 +81,7 @@ taken_other geo leb lnum nodes old new first found other h =
           h.is_first;
     }
 
-pub taken_more : OneNode → (geo : RawGeometry) (leb : List ℕ) (lnum : ℕ) (nodes : List Found) (old now new : List RefNode) (first next misplaced : Option WrongValue) (found : Found) (node : RefNode) → IsBytes leb → found.kind ≡ types.Reference → IsReferenceAt leb found node
+pub taken_more : OneSystemNode → (geo : RawGeometry) (leb : List ℕ) (lnum : ℕ) (nodes : List Found) (old now new : List RefNode) (first next misplaced : Option WrongValue) (found : Found) (node : RefNode) → IsBytes leb → found.kind ≡ types.Reference → IsReferenceAt leb found node
     → AreTakenSoFar geo leb lnum nodes old now first → misplaced ≡ differing_at lnum found.offs (misnamed geo node) → next ≡ sooner_of first misplaced → new ≡ now ++ node ∷ [] → AreTakenSoFar geo leb lnum (nodes ++ found ∷ []) old new next
 taken_more one geo leb lnum nodes old now new first next misplaced found node fits kind is h misplaced_is next_is new_is =
     let own = one_misnamed one geo leb lnum found node fits kind is in

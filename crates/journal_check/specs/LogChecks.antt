@@ -13,7 +13,7 @@ use Rattle.leb_scan.specs.declared.tail.Tail.{Tail}
 use Rattle.leb_scan.specs.declared.tail.Tail.TheVariants.{Clean, Torn}
 use Rattle.small_areas.specs.declared.misplaced.Misplaced.{Misplaced}
 use Rattle.bud_log.specs.Log.{IsLogLeb, Stops, references_of}
-use Rattle.bud_log.specs.LogText.{BeginsCommit, IsReferenceAt, IsTextOf, LogText, Refer, begins_with, is_start_alone, start_of}
+use Rattle.bud_log.specs.LogText.{BeginsCommit, IsReferenceAt, IsLogTextOf, LogText, Refer, begins_with, is_start_alone, start_of}
 use Rattle.bud_log.specs.Writing.{IsChain}
 use Rattle.sound_image.specs.Log.{HasLog, ends_in_start}
 use Rattle.sound_image.specs.LogBreaches.{IsBrokenLog, IsTornWithin, LooksNewer, NamesNoMain, misnamed}
@@ -86,7 +86,7 @@ pub record AreTaken (geo : RawGeometry) (leb : List ℕ) (lnum : ℕ) (old new :
 -- a text was added to those that were read
 pub record IsAddedTo (geo : RawGeometry) (leb : List ℕ) (lnum : ℕ) (seen : SeenLeb) (old new : ReadLebs) : Type 0 where
   pub text : LogText
-  pub is_text : IsTextOf leb lnum text
+  pub is_text : IsLogTextOf leb lnum text
   pub begins : seen.begins ≡ begins_with text.nodes
   pub lnums : new.lnums.items ≡ old.lnums.items ++ lnum ∷ []
   pub references : new.references.items ≡ old.references.items ++ text.references

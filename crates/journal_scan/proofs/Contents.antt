@@ -22,7 +22,7 @@ use Rattle.media_leaf.specs.declared.ino_node.InoNode.{InoNode}
 use Rattle.media_leaf.specs.declared.trun_node.TrunNode.{TrunNode}
 use Rattle.leb_scan.specs.Text.{leaf_type}
 use Rattle.leaf_map.specs.Kept.{bits_of, kind_of_bits}
-use Rattle.journal_scan.specs.Content.{content_of}
+use Rattle.journal_scan.specs.Content.{node_content_of}
 use Rattle.journal_scan.specs.declared.node_content.NodeContent.{NodeContent}
 use Rattle.journal_scan.specs.declared.node_content.NodeContent.TheVariants.{Block, Entry, Inode, Unknown}
 
@@ -45,9 +45,9 @@ ok_map (Ok x) P Q f h = f x h
 ok_map (Err e) P Q f h = tt
 
 -- what is told of the node that was read is told of the one that stands there
-pub told_one : OneNode → (bytes : List ℕ) (content : NodeContent) (read : LeafNode) → IsBytes bytes → Are bytes read → content ≡ content_of read
-    → (sqnum group : ℕ) (node : LeafNode) → IsLeafNode bytes sqnum group node → content ≡ content_of node
-told_one law bytes content read fits h is sqnum group node there = is ∙ ap content_of (law bytes h.0 h.1 sqnum group read node fits h.2 there).2
+pub told_one : OneNode → (bytes : List ℕ) (content : NodeContent) (read : LeafNode) → IsBytes bytes → Are bytes read → content ≡ node_content_of read
+    → (sqnum group : ℕ) (node : LeafNode) → IsLeafNode bytes sqnum group node → content ≡ node_content_of node
+told_one law bytes content read fits h is sqnum group node there = is ∙ ap node_content_of (law bytes h.0 h.1 sqnum group read node fits h.2 there).2
 
 -- ---- a block's key
 second_word : (n number : ℕ) → n ≡ 1 * 2 ^ 29 + number → number < 2 ^ 29 → n % 2 ^ 29 ≡ number
@@ -66,7 +66,7 @@ module _ (bytes : List ℕ) (fits : IsBytes bytes) (sqnum group : ℕ) (node : D
       let less = length-drop 24 bytes in
       omega (arith, long, less)
 
-  pub block_told : (ino second : ℕ) → ino ≡ little_number 4 (drop 24 bytes) → second ≡ little_number 4 (drop 28 bytes) → Block ino (second % 2 ^ 29) ≡ content_of (block node)
+  pub block_told : (ino second : ℕ) → ino ≡ little_number 4 (drop 24 bytes) → second ≡ little_number 4 (drop 28 bytes) → Block ino (second % 2 ^ 29) ≡ node_content_of (block node)
   block_told ino second i s =
       let first : ino ≡ node.ino = i ∙ fields.numbers.0 in
       let other : second ≡ 1 * 2 ^ 29 + node.block = s ∙ ap (little_number 4) (sym (drop-drop 4 24 bytes)) ∙ fields.numbers.1.0 in
@@ -74,14 +74,14 @@ module _ (bytes : List ℕ) (fits : IsBytes bytes) (sqnum group : ℕ) (node : D
 
 -- ---- what is told of an inode
 told_by : (node : InoNode) (ino nlink mode : ℕ) → node.ino ≡ ino → node.nlink ≡ nlink → node.mode ≡ mode
-    → (if is_some (kind_of_bits (bits_of mode)) then Inode ino (not (nlink == 0)) else Unknown (Ino ino) (not (nlink == 0))) ≡ content_of (inode node)
+    → (if is_some (kind_of_bits (bits_of mode)) then Inode ino (not (nlink == 0)) else Unknown (Ino ino) (not (nlink == 0))) ≡ node_content_of (inode node)
 told_by node ino nlink mode i n m =
     ap (λ (z : ℕ). if is_some (kind_of_bits (bits_of mode)) then Inode z (not (nlink == 0)) else Unknown (Ino z) (not (nlink == 0))) (sym i)
     ∙ ap (λ (z : ℕ). if is_some (kind_of_bits (bits_of mode)) then Inode node.ino (not (z == 0)) else Unknown (Ino node.ino) (not (z == 0))) (sym n)
     ∙ ap (λ (z : ℕ). if is_some (kind_of_bits (bits_of z)) then Inode node.ino (not (node.nlink == 0)) else Unknown (Ino node.ino) (not (node.nlink == 0))) (sym m)
 
 pub kind_told : (node : InoNode) (ino nlink mode : ℕ) (some linked : Bool) → some ≡ is_some (kind_of_bits (bits_of mode)) → linked ≡ not (nlink == 0) → node.ino ≡ ino → node.nlink ≡ nlink → node.mode ≡ mode
-    → (if some then Inode ino linked else Unknown (Ino ino) linked) ≡ content_of (inode node)
+    → (if some then Inode ino linked else Unknown (Ino ino) linked) ≡ node_content_of (inode node)
 kind_told node ino nlink mode some linked s l i n m =
     ap (λ (b : Bool). if b then Inode ino linked else Unknown (Ino ino) linked) s
     ∙ ap (λ (b : Bool). if is_some (kind_of_bits (bits_of mode)) then Inode ino b else Unknown (Ino ino) b) l
@@ -138,7 +138,7 @@ module _ (bytes : List ℕ) (fits : IsBytes bytes) (sqnum group : ℕ) (node : D
       omega (arith, long, own, less)
 
   pub entry_told : (dir size : ℕ) (name : List ℕ) (linked : Bool) → dir ≡ little_number 4 (drop 24 bytes) → size ≡ little_number 2 (drop 50 bytes) → name ≡ take size (drop 56 bytes)
-      → linked ≡ not (little_number 8 (drop 40 bytes) == 0) → Entry dir name linked ≡ content_of (entry node)
+      → linked ≡ not (little_number 8 (drop 40 bytes) == 0) → Entry dir name linked ≡ node_content_of (entry node)
   entry_told dir size name linked d s n l =
       let first : dir ≡ node.dir = d ∙ entry_read.numbers.0 ∙ dir_in node.attribute node.dir (r5_of node.name) plain in
       let named : name ≡ node.name = n ∙ ap (λ (k : ℕ). take k (drop 56 bytes)) (size_is size s) ∙ ap (take (length node.name)) name_behind ∙ take-append_seam node.name (0 ∷ []) in
@@ -154,15 +154,15 @@ no_entry true type e a is = a is
 no_entry false type e a is = e is
 
 -- where only nodes of one kind are told, those of another aren't asked for
-pub of_inode : (bytes : List ℕ) (content : NodeContent) → ((sqnum group : ℕ) (node : InoNode) → IsLeafNode bytes sqnum group (inode node) → content ≡ content_of (inode node))
-    → (sqnum group : ℕ) (node : LeafNode) → IsLeafNode bytes sqnum group node → types.Inode ≡ leaf_type node → content ≡ content_of node
+pub of_inode : (bytes : List ℕ) (content : NodeContent) → ((sqnum group : ℕ) (node : InoNode) → IsLeafNode bytes sqnum group (inode node) → content ≡ node_content_of (inode node))
+    → (sqnum group : ℕ) (node : LeafNode) → IsLeafNode bytes sqnum group node → types.Inode ≡ leaf_type node → content ≡ node_content_of node
 of_inode bytes content f sqnum group (inode node) h k = f sqnum group node h
 of_inode bytes content f sqnum group (block node) h k = absurd cc
 of_inode bytes content f sqnum group (entry node) h k = absurd (no_entry node.attribute types.Inode (λ e. absurd cc) (λ e. absurd cc) k)
 of_inode bytes content f sqnum group (truncation node) h k = absurd cc
 
-pub of_block : (bytes : List ℕ) (content : NodeContent) → ((sqnum group : ℕ) (node : DataNode) → IsLeafNode bytes sqnum group (block node) → content ≡ content_of (block node))
-    → (sqnum group : ℕ) (node : LeafNode) → IsLeafNode bytes sqnum group node → types.Data ≡ leaf_type node → content ≡ content_of node
+pub of_block : (bytes : List ℕ) (content : NodeContent) → ((sqnum group : ℕ) (node : DataNode) → IsLeafNode bytes sqnum group (block node) → content ≡ node_content_of (block node))
+    → (sqnum group : ℕ) (node : LeafNode) → IsLeafNode bytes sqnum group node → types.Data ≡ leaf_type node → content ≡ node_content_of node
 of_block bytes content f sqnum group (inode node) h k = absurd cc
 of_block bytes content f sqnum group (block node) h k = f sqnum group node h
 of_block bytes content f sqnum group (entry node) h k = absurd (no_entry node.attribute types.Data (λ e. absurd cc) (λ e. absurd cc) k)
@@ -172,22 +172,22 @@ plain_of : (b : Bool) → types.Entry ≡ (if b then types.Attribute else types.
 plain_of false e = refl
 plain_of true e = absurd cc
 
-pub of_entry : (bytes : List ℕ) (content : NodeContent) → ((sqnum group : ℕ) (node : DentNode) → node.attribute ≡ false → IsLeafNode bytes sqnum group (entry node) → content ≡ content_of (entry node))
-    → (sqnum group : ℕ) (node : LeafNode) → IsLeafNode bytes sqnum group node → types.Entry ≡ leaf_type node → content ≡ content_of node
+pub of_entry : (bytes : List ℕ) (content : NodeContent) → ((sqnum group : ℕ) (node : DentNode) → node.attribute ≡ false → IsLeafNode bytes sqnum group (entry node) → content ≡ node_content_of (entry node))
+    → (sqnum group : ℕ) (node : LeafNode) → IsLeafNode bytes sqnum group node → types.Entry ≡ leaf_type node → content ≡ node_content_of node
 of_entry bytes content f sqnum group (inode node) h k = absurd cc
 of_entry bytes content f sqnum group (block node) h k = absurd cc
 of_entry bytes content f sqnum group (entry node) h k = f sqnum group node (plain_of node.attribute k) h
 of_entry bytes content f sqnum group (truncation node) h k = absurd cc
 
-pub of_attribute : (bytes : List ℕ) (content : NodeContent) → ((sqnum group : ℕ) (node : DentNode) → IsLeafNode bytes sqnum group (entry node) → content ≡ content_of (entry node))
-    → (sqnum group : ℕ) (node : LeafNode) → IsLeafNode bytes sqnum group node → types.Attribute ≡ leaf_type node → content ≡ content_of node
+pub of_attribute : (bytes : List ℕ) (content : NodeContent) → ((sqnum group : ℕ) (node : DentNode) → IsLeafNode bytes sqnum group (entry node) → content ≡ node_content_of (entry node))
+    → (sqnum group : ℕ) (node : LeafNode) → IsLeafNode bytes sqnum group node → types.Attribute ≡ leaf_type node → content ≡ node_content_of node
 of_attribute bytes content f sqnum group (inode node) h k = absurd cc
 of_attribute bytes content f sqnum group (block node) h k = absurd cc
 of_attribute bytes content f sqnum group (entry node) h k = f sqnum group node h
 of_attribute bytes content f sqnum group (truncation node) h k = absurd cc
 
-pub of_truncation : (bytes : List ℕ) (content : NodeContent) → ((sqnum group : ℕ) (node : TrunNode) → IsLeafNode bytes sqnum group (truncation node) → content ≡ content_of (truncation node))
-    → (sqnum group : ℕ) (node : LeafNode) → IsLeafNode bytes sqnum group node → types.Truncation ≡ leaf_type node → content ≡ content_of node
+pub of_truncation : (bytes : List ℕ) (content : NodeContent) → ((sqnum group : ℕ) (node : TrunNode) → IsLeafNode bytes sqnum group (truncation node) → content ≡ node_content_of (truncation node))
+    → (sqnum group : ℕ) (node : LeafNode) → IsLeafNode bytes sqnum group node → types.Truncation ≡ leaf_type node → content ≡ node_content_of node
 of_truncation bytes content f sqnum group (inode node) h k = absurd cc
 of_truncation bytes content f sqnum group (block node) h k = absurd cc
 of_truncation bytes content f sqnum group (entry node) h k = absurd (no_entry node.attribute types.Truncation (λ e. absurd cc) (λ e. absurd cc) k)

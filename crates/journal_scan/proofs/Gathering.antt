@@ -4,7 +4,7 @@ use Rattle.std.proofs.lemmas.List.{map-append}
 use Rattle.leaf_map.specs.Kept.{Placed}
 use Rattle.journal_scan.specs.Content.{told}
 use Rattle.journal_scan.specs.Gathered.{AreGathered, IsOneMore}
-use Rattle.journal_scan.specs.Journal.{BudRead, copies_in, greatest_in, nodes_in}
+use Rattle.journal_scan.specs.Journal.{BudRead, copies_in, greatest_in, journal_nodes_in}
 use Rattle.journal_scan.specs.declared.bud_text.BudText.{BudText}
 use Rattle.journal_scan.specs.declared.journal_node.JournalNode.{JournalNode}
 use Rattle.journal_scan.specs.declared.journal_read.JournalRead.{JournalRead}
@@ -28,7 +28,7 @@ gathered_more bud buds one reads old mid new first rest = record {
   of_buds = ap (λ b. b ∷ map (λ (x : BudRead). x.bud) reads) first.of_bud ∙ ap (λ bs. bud ∷ bs) rest.of_buds;
   texts = (first.text, rest.texts);
   behind = record {
-    nodes = joined old.nodes.items mid.nodes.items new.nodes.items _ (nodes_in reads) first.behind.nodes rest.behind.nodes;
+    nodes = joined old.nodes.items mid.nodes.items new.nodes.items _ (journal_nodes_in reads) first.behind.nodes rest.behind.nodes;
     copies = joined old.copies.items mid.copies.items new.copies.items _ (copies_in reads) first.behind.copies rest.behind.copies;
     sqnum = rest.behind.sqnum ∙ ap (λ n. greatest_in n reads) first.behind.sqnum;
     tails = rest.behind.tails ∙ ap (λ zs. zs ++ map (λ (x : BudRead). x.tail) reads) first.behind.tails ∙ append_assoc old.tails.items (one.tail ∷ []) (map (λ (x : BudRead). x.tail) reads);

@@ -10,7 +10,7 @@ use Rattle.media_leaf.specs.declared.ino_node.InoNode.{InoNode}
 use Rattle.leaf_map.specs.Kept.{bits_of, kind_of_bits}
 use Rattle.leaf_map.specs.Kept.{Placed, node_key}
 use Rattle.leaf_map.specs.Recovered.{highest_key}
-use Rattle.journal_scan.specs.Content.{content_of, number_told, told}
+use Rattle.journal_scan.specs.Content.{node_content_of, number_told, told}
 use Rattle.journal_scan.specs.declared.journal_node.JournalNode.{JournalNode}
 use Rattle.journal_scan.specs.declared.node_content.NodeContent.TheVariants.{Inode, Entry, Unknown}
 
@@ -22,7 +22,7 @@ entry_number : (node : DentNode) (linked attribute : Bool) → number_told (cond
 entry_number node linked true = refl
 entry_number node linked false = refl
 
-number_is : (node : LeafNode) → number_told (content_of node) ≡ (key_words (node_key node)).0
+number_is : (node : LeafNode) → number_told (node_content_of node) ≡ (key_words (node_key node)).0
 number_is (inode node) = inode_number node (not (node.nlink == 0)) (is_some (kind_of_bits (bits_of node.mode)))
 number_is (block node) = refl
 number_is (entry node) = entry_number node (not (node.inum == 0)) node.attribute

@@ -5,7 +5,7 @@ use Rattle.std.specs.Ordering.{nat_cmp, is_lt}
 use Rattle.std.proofs.lemmas.Bool.{cases_Bool, false≢true, ltb-true, ltb-false, lt-ltb, le-ltb}
 use Rattle.std.proofs.lemmas.List.Elements.{filter-append}
 use Rattle.leaf_map.specs.Kept.{Placed}
-use Rattle.leaf_map.specs.Recovered.{in_order, placed_node}
+use Rattle.leaf_map.specs.Recovered.{nodes_in_order, placed_node}
 use Rattle.journal_scan.specs.Content.{told}
 use Rattle.journal_scan.specs.declared.journal_node.JournalNode.{JournalNode}
 
@@ -180,7 +180,7 @@ told_sorted acc [] = refl
 told_sorted acc (x ∷ xs) = told_sorted (placed_node acc x) xs ∙ ap (λ a. fold (inserted (λ (y : JournalNode). y.sqnum)) a (map told xs)) (told_inserted acc x)
 
 -- nodes after a stable sort by number are told in order
-pub are_in_order : (xs : List Placed) (old new : List JournalNode) → old ≡ map told xs → IsNonDecreasingBy (λ (y : JournalNode). y.sqnum) new → IsStableByKey (λ (y : JournalNode). y.sqnum) nat_cmp old new → new ≡ map told (in_order xs)
+pub are_in_order : (xs : List Placed) (old new : List JournalNode) → old ≡ map told xs → IsNonDecreasingBy (λ (y : JournalNode). y.sqnum) new → IsStableByKey (λ (y : JournalNode). y.sqnum) nat_cmp old new → new ≡ map told (nodes_in_order xs)
 are_in_order xs old new is up stable =
     is_inserted (λ (y : JournalNode). y.sqnum) old new up stable
     ∙ ap (λ a. fold (inserted (λ (y : JournalNode). y.sqnum)) [] a) is

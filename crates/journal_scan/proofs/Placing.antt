@@ -12,7 +12,7 @@ use Rattle.ubifs_base.specs.declared.journal_head.JournalHead.{JournalHead}
 use Rattle.ubifs_base.specs.declared.journal_head.JournalHead.TheVariants.{Collector, Base, Data}
 use Rattle.leaf_map.specs.Kept.{Placed, kept_at}
 use Rattle.leaf_map.specs.Parts.{Named, in_bud}
-use Rattle.journal_scan.specs.Journal.{AreLeaves, BudRead, IsBudRead, IsLeafAt, copies_in, if_changes, if_copies, is_unfinished, nodes_in, taken, whole_groups}
+use Rattle.journal_scan.specs.Journal.{AreLeaves, BudRead, IsBudRead, IsLeafAt, copies_in, if_changes, if_copies, is_unfinished, journal_nodes_in, nodes_taken_of, whole_groups}
 use Rattle.journal_scan.specs.Places.{AreToldOnce, HasNamedPlace, HavePlaces, IsElsewhere, StandApart, at_one_place, named_by}
 use Rattle.journal_scan.specs.declared.bud_text.BudText.{BudText}
 
@@ -142,18 +142,18 @@ of_text read is =
 whole_taken : (bud : BudText) (nodes : List Placed) → IsTakenOf bud nodes → IsTakenOf bud (whole_groups nodes)
 whole_taken bud nodes t = record { inside = whole_all (IsIn bud) nodes t.inside; apart = whole_apart nodes t.apart }
 
-copies_taken : (bud : BudText) (head : JournalHead) (nodes : List Placed) → IsTakenOf bud nodes → IsTakenOf bud (if_copies head (taken head nodes))
+copies_taken : (bud : BudText) (head : JournalHead) (nodes : List Placed) → IsTakenOf bud nodes → IsTakenOf bud (if_copies head (nodes_taken_of head nodes))
 copies_taken bud Collector nodes t = t
 copies_taken bud Base nodes t = none_taken bud
 copies_taken bud Data nodes t = none_taken bud
 
-nodes_taken : (bud : BudText) (head : JournalHead) (nodes : List Placed) → IsTakenOf bud nodes → IsTakenOf bud (if_changes head (taken head nodes))
+nodes_taken : (bud : BudText) (head : JournalHead) (nodes : List Placed) → IsTakenOf bud nodes → IsTakenOf bud (if_changes head (nodes_taken_of head nodes))
 nodes_taken bud Collector nodes t = none_taken bud
 nodes_taken bud Base nodes t = whole_taken bud nodes t
 nodes_taken bud Data nodes t = whole_taken bud nodes t
 
 -- of one LEB nodes are copies, or none is
-one_kind : (head : JournalHead) (nodes : List Placed) → AllByRecursion (λ x. IsElsewhere x (if_changes head (taken head nodes))) (if_copies head (taken head nodes))
+one_kind : (head : JournalHead) (nodes : List Placed) → AllByRecursion (λ x. IsElsewhere x (if_changes head (nodes_taken_of head nodes))) (if_copies head (nodes_taken_of head nodes))
 one_kind Collector nodes = nothing nodes
   where
     nothing : (xs : List Placed) → AllByRecursion (λ x. IsElsewhere x []) xs
@@ -172,16 +172,16 @@ picked pick [] = []
 picked pick (x ∷ reads) = pick x ++ picked pick reads
 
 abbrev pick_copies : Pick
-pick_copies x = if_copies x.bud.head (taken x.bud.head x.nodes)
+pick_copies x = if_copies x.bud.head (nodes_taken_of x.bud.head x.nodes)
 
 abbrev pick_nodes : Pick
-pick_nodes x = if_changes x.bud.head (taken x.bud.head x.nodes)
+pick_nodes x = if_changes x.bud.head (nodes_taken_of x.bud.head x.nodes)
 
 copies_picked : (reads : List BudRead) → copies_in reads ≡ picked pick_copies reads
 copies_picked [] = refl
 copies_picked (x ∷ reads) = ap (λ zs. pick_copies x ++ zs) (copies_picked reads)
 
-nodes_picked : (reads : List BudRead) → nodes_in reads ≡ picked pick_nodes reads
+nodes_picked : (reads : List BudRead) → journal_nodes_in reads ≡ picked pick_nodes reads
 nodes_picked [] = refl
 nodes_picked (x ∷ reads) = ap (λ zs. pick_nodes x ++ zs) (nodes_picked reads)
 
@@ -327,15 +327,15 @@ all_nodes : (reads : List BudRead) → AllByRecursion IsBudRead reads → AreTak
 all_nodes [] a = tt
 all_nodes (x ∷ reads) a = (nodes_taken x.bud x.bud.head x.nodes (of_text x a.0), all_nodes reads a.1)
 
-pub have_places : (buds : List BudText) (reads : List BudRead) → AreToldOnce buds → map (λ (x : BudRead). x.bud) reads ≡ buds → AllByRecursion IsBudRead reads → HavePlaces (map named_by buds) (copies_in reads) (nodes_in reads)
+pub have_places : (buds : List BudText) (reads : List BudRead) → AreToldOnce buds → map (λ (x : BudRead). x.bud) reads ≡ buds → AllByRecursion IsBudRead reads → HavePlaces (map named_by buds) (copies_in reads) (journal_nodes_in reads)
 have_places buds reads once of_buds texts =
     let differ = differ_of reads (subst AreToldOnce (sym of_buds) once) in
     let s = all_copies reads texts in
     let t = all_nodes reads texts in
     let cs : picked pick_copies reads ≡ copies_in reads = sym (copies_picked reads) in
-    let ns : picked pick_nodes reads ≡ nodes_in reads = sym (nodes_picked reads) in
-    subst (λ (bs : List BudText). HavePlaces (map named_by bs) (copies_in reads) (nodes_in reads)) of_buds
-    (subst (λ (xs : List Placed). HavePlaces (map named_by (map (λ (x : BudRead). x.bud) reads)) xs (nodes_in reads)) cs
+    let ns : picked pick_nodes reads ≡ journal_nodes_in reads = sym (nodes_picked reads) in
+    subst (λ (bs : List BudText). HavePlaces (map named_by bs) (copies_in reads) (journal_nodes_in reads)) of_buds
+    (subst (λ (xs : List Placed). HavePlaces (map named_by (map (λ (x : BudRead). x.bud) reads)) xs (journal_nodes_in reads)) cs
     (subst (λ (ys : List Placed). HavePlaces (map named_by (map (λ (x : BudRead). x.bud) reads)) (picked pick_copies reads) ys) ns (record {
       copies_apart = picked_apart pick_copies reads differ s;
       nodes_apart = picked_apart pick_nodes reads differ t;
@@ -345,5 +345,5 @@ have_places buds reads once of_buds texts =
       leaf_nodes = picked_leaves pick_nodes reads t;
     })))
 
-pub are_leaves : (reads : List BudRead) → AllByRecursion IsBudRead reads → AllByRecursion (λ x. IsLeaf x.node) (nodes_in reads)
+pub are_leaves : (reads : List BudRead) → AllByRecursion IsBudRead reads → AllByRecursion (λ x. IsLeaf x.node) (journal_nodes_in reads)
 are_leaves reads texts = subst (λ (xs : List Placed). AllByRecursion (λ x. IsLeaf x.node) xs) (sym (nodes_picked reads)) (picked_leaves pick_nodes reads (all_nodes reads texts))

@@ -7,7 +7,7 @@ use Rattle.leb_scan.specs.declared.found.Found.{Found}
 use Rattle.leb_scan.specs.declared.item.Item.{Item}
 use Rattle.leb_scan.specs.declared.item.Item.TheVariants.{Node, Padding, Word}
 use Rattle.leaf_map.specs.Kept.{Placed}
-use Rattle.journal_scan.specs.Groups.{AreGaps, IsGroup, groups_within, joined}
+use Rattle.journal_scan.specs.Groups.{AreGaps, IsGroup, groups_within, joined_groups}
 use Rattle.journal_scan.specs.Journal.{AreLeaves, is_unfinished, whole_groups}
 use Rattle.journal_scan.specs.declared.bud_text.BudText.{BudText}
 
@@ -30,10 +30,10 @@ none_whole : (nodes : List Placed) → is_unfinished nodes ≡ true → whole_gr
 none_whole [] e = refl
 none_whole (x ∷ nodes) e = ap (λ b. cond b [] (x ∷ whole_groups nodes)) e
 
-pub with_part : (groups : List (List Placed)) (part : List Placed) → AllByRecursion IsGroup groups → is_unfinished part ≡ true → whole_groups (joined groups ++ part) ≡ joined groups
+pub with_part : (groups : List (List Placed)) (part : List Placed) → AllByRecursion IsGroup groups → is_unfinished part ≡ true → whole_groups (joined_groups groups ++ part) ≡ joined_groups groups
 with_part [] part g e = none_whole part e
 with_part (group ∷ groups) part g e =
-    ap whole_groups (append_assoc group (joined groups) part) ∙ group_first group (joined groups ++ part) g.0 ∙ ap (λ zs. group ++ zs) (with_part groups part g.1 e)
+    ap whole_groups (append_assoc group (joined_groups groups) part) ∙ group_first group (joined_groups groups ++ part) g.0 ∙ ap (λ zs. group ++ zs) (with_part groups part g.1 e)
 
 -- ---- a first part
 part_unfinished : (group : List Placed) (n : ℕ) → IsGroup group → n < length group → is_unfinished (take n group) ≡ true
@@ -54,18 +54,18 @@ take_beyond (x ∷ xs) ys (suc n) h =
     let less : suc n - suc (length xs) ≡ n - length xs = omega arith in
     ap (λ zs. x ∷ zs) (take_beyond xs ys n (omega (arith, h))) ∙ ap (λ k. x ∷ xs ++ take k ys) (sym less)
 
-pub with_first : (groups : List (List Placed)) (n : ℕ) → AllByRecursion IsGroup groups → whole_groups (take n (joined groups)) ≡ joined (take (groups_within n groups) groups)
+pub with_first : (groups : List (List Placed)) (n : ℕ) → AllByRecursion IsGroup groups → whole_groups (take n (joined_groups groups)) ≡ joined_groups (take (groups_within n groups) groups)
 with_first [] zero g = refl
 with_first [] (suc n) g = refl
 with_first (group ∷ groups) n g = by (nat_le (length group) n) refl (with_first groups (n - length group) g.1)
   where
-    by : (b : Bool) → nat_le (length group) n ≡ b → whole_groups (take (n - length group) (joined groups)) ≡ joined (take (groups_within (n - length group) groups) groups)
-        → whole_groups (take n (group ++ joined groups)) ≡ joined (take (cond b (suc (groups_within (n - length group) groups)) 0) (group ∷ groups))
+    by : (b : Bool) → nat_le (length group) n ≡ b → whole_groups (take (n - length group) (joined_groups groups)) ≡ joined_groups (take (groups_within (n - length group) groups) groups)
+        → whole_groups (take n (group ++ joined_groups groups)) ≡ joined_groups (take (cond b (suc (groups_within (n - length group) groups)) 0) (group ∷ groups))
     by true e rest =
-        ap whole_groups (take_beyond group (joined groups) n (leb-true (length group) n e)) ∙ group_first group (take (n - length group) (joined groups)) g.0 ∙ ap (λ zs. group ++ zs) rest
+        ap whole_groups (take_beyond group (joined_groups groups) n (leb-true (length group) n e)) ∙ group_first group (take (n - length group) (joined_groups groups)) g.0 ∙ ap (λ zs. group ++ zs) rest
     by false e rest =
         let less = leb-false (length group) n e in
-        ap whole_groups (take_inside group (joined groups) n less) ∙ none_whole (take n group) (part_unfinished group n g.0 less)
+        ap whole_groups (take_inside group (joined_groups groups) n less) ∙ none_whole (take n group) (part_unfinished group n g.0 less)
 
 -- ---- leaf nodes of items
 nodes_joined : (front back : List Item) → nodes_of (front ++ back) ≡ nodes_of front ++ nodes_of back

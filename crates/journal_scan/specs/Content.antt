@@ -20,11 +20,11 @@ abbrev pub entry_content : DentNode → NodeContent
 entry_content node = if node.attribute then Unknown (Xent node.dir (r5_of node.name)) true else Entry node.dir node.name (not (node.inum == 0))
 
 -- what is told of a leaf node: all but the data, the attributes and the inode that a name stands for
-abbrev pub content_of : LeafNode → NodeContent
-content_of (inode node) = inode_content node
-content_of (block node) = Block node.ino node.block
-content_of (entry node) = entry_content node
-content_of (truncation node) = Truncation node.ino node.new_size
+abbrev pub node_content_of : LeafNode → NodeContent
+node_content_of (inode node) = inode_content node
+node_content_of (block node) = Block node.ino node.block
+node_content_of (entry node) = entry_content node
+node_content_of (truncation node) = Truncation node.ino node.new_size
 
 -- the inode number of the key of a node of which this is told
 abbrev pub number_told : NodeContent → ℕ
@@ -40,4 +40,4 @@ highest_told nodes = fold (λ n x. max n (number_told x.content)) 0 nodes
 
 -- what is told of a leaf node where it stands
 abbrev pub told : Placed → JournalNode
-told x = record { content = content_of x.node; sqnum = x.sqnum; lnum = x.lnum; offs = x.offs; len = x.len }
+told x = record { content = node_content_of x.node; sqnum = x.sqnum; lnum = x.lnum; offs = x.offs; len = x.len }

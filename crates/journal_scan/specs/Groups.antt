@@ -14,9 +14,9 @@ IsGroup (x ∷ []) = (x.group == 1) ≡ false
 IsGroup (x ∷ y ∷ nodes) = ((x.group == 1) ≡ true) × IsGroup (y ∷ nodes)
 
 -- the nodes of groups, one behind another
-abbrev pub joined : List (List Placed) → List Placed
-joined [] = []
-joined (group ∷ groups) = group ++ joined groups
+abbrev pub joined_groups : List (List Placed) → List Placed
+joined_groups [] = []
+joined_groups (group ∷ groups) = group ++ joined_groups groups
 
 -- how many groups, from the first on, have all their nodes among the first so many nodes
 abbrev pub groups_within : ℕ → List (List Placed) → ℕ

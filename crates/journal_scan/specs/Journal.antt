@@ -10,7 +10,7 @@ use Rattle.leb_scan.specs.declared.found.Found.{Found}
 use Rattle.leb_scan.specs.declared.item.Item.{Item}
 use Rattle.leb_scan.specs.declared.tail.Tail.{Tail}
 use Rattle.leaf_map.specs.Kept.{Placed, node_key}
-use Rattle.leaf_map.specs.Recovered.{highest_key, in_order}
+use Rattle.leaf_map.specs.Recovered.{highest_key, nodes_in_order}
 use Rattle.journal_scan.specs.Content.{told}
 use Rattle.journal_scan.specs.declared.bud_text.BudText.{BudText}
 use Rattle.journal_scan.specs.declared.journal_read.JournalRead.{JournalRead}
@@ -38,8 +38,8 @@ AreLeaves bud [] nodes = nodes ≡ []
 AreLeaves bud (found ∷ founds) nodes = (own : List Placed) × (rest : List Placed) × IsLeafAt bud found own × AreLeaves bud founds rest × (nodes ≡ own ++ rest)
 
 -- the greatest sequence number of nodes of any kind, or 0
-abbrev pub greatest_found : List Found → ℕ
-greatest_found founds = fold (λ n x. max n x.sqnum) 0 founds
+abbrev pub greatest_number_found : List Found → ℕ
+greatest_number_found founds = fold (λ n x. max n x.sqnum) 0 founds
 
 -- a LEB that the log names, with the leaf nodes of its text, the greatest number of all its nodes, and its tail
 pub record BudRead : Type 0 where
@@ -54,7 +54,7 @@ pub record IsBudRead (read : BudRead) : Type 0 where
   pub end : ℕ
   pub text : IsText read.bud.bytes read.bud.from items end read.tail
   pub leaves : AreLeaves read.bud (nodes_of items) read.nodes
-  pub sqnum : read.sqnum ≡ greatest_found (nodes_of items)
+  pub sqnum : read.sqnum ≡ greatest_number_found (nodes_of items)
 
 -- ---- whole groups
 -- whether no node of these is the last of a group, or a group by itself
@@ -67,10 +67,10 @@ whole_groups [] = []
 whole_groups (x ∷ nodes) = if is_unfinished (x ∷ nodes) then [] else x ∷ whole_groups nodes
 
 -- the nodes that a mount takes of a head's text: in the collector's each node stands by itself
-abbrev pub taken : JournalHead → List Placed → List Placed
-taken Collector nodes = nodes
-taken Base nodes = whole_groups nodes
-taken Data nodes = whole_groups nodes
+abbrev pub nodes_taken_of : JournalHead → List Placed → List Placed
+nodes_taken_of Collector nodes = nodes
+nodes_taken_of Base nodes = whole_groups nodes
+nodes_taken_of Data nodes = whole_groups nodes
 
 -- ---- all texts
 -- what stands in a text of the collector's head, and what in one of another head
@@ -87,12 +87,12 @@ if_changes Data nodes = nodes
 -- the copies that the collector made, in order of the log
 abbrev pub copies_in : List BudRead → List Placed
 copies_in [] = []
-copies_in (x ∷ reads) = if_copies x.bud.head (taken x.bud.head x.nodes) ++ copies_in reads
+copies_in (x ∷ reads) = if_copies x.bud.head (nodes_taken_of x.bud.head x.nodes) ++ copies_in reads
 
 -- the nodes of whole groups of the other heads, in order of the log
-abbrev pub nodes_in : List BudRead → List Placed
-nodes_in [] = []
-nodes_in (x ∷ reads) = if_changes x.bud.head (taken x.bud.head x.nodes) ++ nodes_in reads
+abbrev pub journal_nodes_in : List BudRead → List Placed
+journal_nodes_in [] = []
+journal_nodes_in (x ∷ reads) = if_changes x.bud.head (nodes_taken_of x.bud.head x.nodes) ++ journal_nodes_in reads
 
 -- the greatest sequence number of all nodes of texts, also of those that are dropped, or the one beside them
 abbrev pub greatest_in : ℕ → List BudRead → ℕ
@@ -103,8 +103,8 @@ pub record IsJournalRead (buds : List BudText) (read : JournalRead) : Type 0 whe
   pub reads : List BudRead
   pub of_buds : map (λ x. x.bud) reads ≡ buds
   pub texts : AllByRecursion IsBudRead reads
-  pub nodes : read.nodes.items ≡ map told (in_order (nodes_in reads))
+  pub nodes : read.nodes.items ≡ map told (nodes_in_order (journal_nodes_in reads))
   pub copies : read.copies.items ≡ map told (copies_in reads)
-  pub highest : read.highest ≡ highest_key 0 (map (λ x. node_key x.node) (in_order (nodes_in reads)))
+  pub highest : read.highest ≡ highest_key 0 (map (λ x. node_key x.node) (nodes_in_order (journal_nodes_in reads)))
   pub sqnum : read.sqnum ≡ greatest_in 0 reads
   pub tails : read.tails.items ≡ map (λ x. x.tail) reads

@@ -8,7 +8,7 @@ ghost use Rattle.media_leaf.specs.declared.ino_node.InoNode.{InoNode};
 ghost use Rattle.media_leaf.specs.declared.trun_node.TrunNode.{TrunNode};
 ghost use Rattle.leb_scan.specs.Text.{leaf_type};
 ghost use Rattle.leaf_map.specs.Kept.{bits_of, kind_of_bits};
-ghost use Rattle.journal_scan.specs.Content.{content_of, entry_content};
+ghost use Rattle.journal_scan.specs.Content.{node_content_of, entry_content};
 
 use crate::node_content::NodeContent;
 use media_leaf::{DentNode, TrunNode, one_node};
@@ -19,7 +19,7 @@ use ubifs_base::{Key, Memory, Name, NodeType, r5};
 /// What is told of the leaf node of this type that the bytes are, all of them; if they are none, what is told says nothing. Takes
 /// memory for an entry's name. The error is want of memory.
 pub fn read_content(alloc: Global, kind: NodeType, bytes: &[u8]) -> Result<NodeContent, Memory>
-    ensures { IfOk result (λ content. (sqnum group : ℕ) (node : LeafNode) → IsLeafNode bytes.now sqnum group node → kind ≡ leaf_type node → content ≡ content_of node) }
+    ensures { IfOk result (λ content. (sqnum group : ℕ) (node : LeafNode) → IsLeafNode bytes.now sqnum group node → kind ≡ leaf_type node → content ≡ node_content_of node) }
 {
     match kind {
         NodeType::Inode => Ok(read_inode(bytes)),
@@ -51,7 +51,7 @@ const INODE_END: usize = 160;
 
 // What an inode's node says. Its checksum was compared when it was found.
 fn read_inode(bytes: &[u8]) -> NodeContent
-    ensures { (sqnum group : ℕ) (node : InoNode) → IsLeafNode bytes.now sqnum group (inode node) → result ≡ content_of (inode node) }
+    ensures { (sqnum group : ℕ) (node : InoNode) → IsLeafNode bytes.now sqnum group (inode node) → result ≡ node_content_of (inode node) }
 {
     if bytes.len() < INODE_END {
         return NO_NODE;
@@ -65,7 +65,7 @@ fn read_inode(bytes: &[u8]) -> NodeContent
 
 // What is told of an inode of this number, these links and this mode.
 fn content_of_inode(ino: u32, nlink: u32, mode: u32) -> NodeContent
-    ensures { (node : InoNode) → node.ino ≡ ino → node.nlink ≡ nlink → node.mode ≡ mode → result ≡ content_of (inode node) }
+    ensures { (node : InoNode) → node.ino ≡ ino → node.nlink ≡ nlink → node.mode ≡ mode → result ≡ node_content_of (inode node) }
 {
     let linked = nlink != 0;
     if has_kind(mode) {
@@ -102,7 +102,7 @@ fn is_kind(bits: u32) -> bool
 
 // What a block's node says. Its checksum was compared when it was found, and its data stays where it is.
 fn read_block(bytes: &[u8]) -> NodeContent
-    ensures { (sqnum group : ℕ) (node : DataNode) → IsLeafNode bytes.now sqnum group (block node) → result ≡ content_of (block node) }
+    ensures { (sqnum group : ℕ) (node : DataNode) → IsLeafNode bytes.now sqnum group (block node) → result ≡ node_content_of (block node) }
 {
     if bytes.len() < KEY_END {
         return NO_NODE;
@@ -122,7 +122,7 @@ const NAME_PLACE: usize = 24 + 32;
 
 // What the node of a directory's entry says. Its checksum was compared when it was found.
 fn read_entry(alloc: Global, bytes: &[u8]) -> Result<NodeContent, Memory>
-    ensures { IfOk result (λ content. (sqnum group : ℕ) (node : DentNode) → node.attribute ≡ false → IsLeafNode bytes.now sqnum group (entry node) → content ≡ content_of (entry node)) }
+    ensures { IfOk result (λ content. (sqnum group : ℕ) (node : DentNode) → node.attribute ≡ false → IsLeafNode bytes.now sqnum group (entry node) → content ≡ node_content_of (entry node)) }
 {
     if bytes.len() < NAME_PLACE {
         return Ok(NO_NODE);
@@ -142,7 +142,7 @@ fn read_entry(alloc: Global, bytes: &[u8]) -> Result<NodeContent, Memory>
 
 // What the node of an attribute says.
 fn read_attribute(alloc: Global, bytes: &[u8]) -> Result<NodeContent, Memory>
-    ensures { IfOk result (λ content. (sqnum group : ℕ) (node : DentNode) → IsLeafNode bytes.now sqnum group (entry node) → content ≡ content_of (entry node)) }
+    ensures { IfOk result (λ content. (sqnum group : ℕ) (node : DentNode) → IsLeafNode bytes.now sqnum group (entry node) → content ≡ node_content_of (entry node)) }
 {
     one_node();
     let Some(node) = DentNode::decode(alloc, bytes)? else {
@@ -172,7 +172,7 @@ fn content_of_entry(node: DentNode) -> NodeContent
 
 // What a truncation's node says.
 fn read_truncation(alloc: Global, bytes: &[u8]) -> Result<NodeContent, Memory>
-    ensures { IfOk result (λ content. (sqnum group : ℕ) (node : TrunNode) → IsLeafNode bytes.now sqnum group (truncation node) → content ≡ content_of (truncation node)) }
+    ensures { IfOk result (λ content. (sqnum group : ℕ) (node : TrunNode) → IsLeafNode bytes.now sqnum group (truncation node) → content ≡ node_content_of (truncation node)) }
 {
     one_node();
     let Some(node) = TrunNode::decode(alloc, bytes)? else {

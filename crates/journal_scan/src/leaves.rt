@@ -7,7 +7,7 @@ ghost use Rattle.media_sys.specs.SystemNode.{SystemNode};
 ghost use Rattle.leb_scan.specs.Text.{StandsAt, leaf, system};
 ghost use Rattle.leaf_map.specs.Kept.{Placed};
 ghost use Rattle.journal_scan.specs.Content.{told};
-ghost use Rattle.journal_scan.specs.Journal.{AreLeaves, IsBudRead, IsReadable, greatest_found, placed_at, taken, whole_groups};
+ghost use Rattle.journal_scan.specs.Journal.{AreLeaves, IsBudRead, IsReadable, greatest_number_found, placed_at, nodes_taken_of, whole_groups};
 ghost use Rattle.journal_scan.specs.Stands.{HasNode, is_leaf_type};
 
 use crate::bud_text::BudText;
@@ -38,7 +38,7 @@ const IN_GROUP: u8 = 1;
 // The nodes that a mount takes of a LEB that the log names.
 pub(crate) fn read_bud(alloc: Global, bud: &BudText) -> Result<BudNodes, Memory>
     requires { IsReadable bud.now }
-    ensures { IfOk result (λ r. (nodes : List Placed) × IsBudRead (record { bud = bud.now; nodes = nodes; sqnum = r.sqnum; tail = r.tail }) × (r.nodes.items ≡ map told (taken bud.now.head nodes))) }
+    ensures { IfOk result (λ r. (nodes : List Placed) × IsBudRead (record { bud = bud.now; nodes = nodes; sqnum = r.sqnum; tail = r.tail }) × (r.nodes.items ≡ map told (nodes_taken_of bud.now.head nodes))) }
 {
     let text = scan(alloc, bud.bytes.as_slice(), bud.from)?;
     let tail = text.tail;
@@ -50,7 +50,7 @@ pub(crate) fn read_bud(alloc: Global, bud: &BudText) -> Result<BudNodes, Memory>
 
 // The greatest sequence number of what was found, or 0.
 fn greatest(founds: &[Found]) -> u64
-    ensures { result ≡ greatest_found founds.now }
+    ensures { result ≡ greatest_number_found founds.now }
 {
     let mut most = 0;
     for found in founds {
@@ -61,7 +61,7 @@ fn greatest(founds: &[Found]) -> u64
 
 // The nodes of whole groups, or all in the collector's head.
 fn whole_of(head: JournalHead, leaves: Leaves) -> Vec<JournalNode>
-    ensures { (nodes : List Placed) → leaves.nodes.items ≡ map told nodes → whole_groups nodes ≡ take leaves.whole nodes → result.items ≡ map told (taken head nodes) }
+    ensures { (nodes : List Placed) → leaves.nodes.items ≡ map told nodes → whole_groups nodes ≡ take leaves.whole nodes → result.items ≡ map told (nodes_taken_of head nodes) }
 {
     let mut nodes = leaves.nodes;
     match head {

@@ -4,7 +4,7 @@ ghost use Rattle.std.specs.Prelude.{◌≡◌, List, map, IfOk, OnOk};
 ghost use Rattle.std.specs.List.{AllByRecursion};
 ghost use Rattle.ubifs_base.specs.Key.{key_words};
 ghost use Rattle.leaf_map.specs.Kept.{Placed, node_key};
-ghost use Rattle.leaf_map.specs.Recovered.{highest_key, in_order};
+ghost use Rattle.leaf_map.specs.Recovered.{highest_key, nodes_in_order};
 ghost use Rattle.journal_scan.specs.Content.{highest_told, number_told, told};
 ghost use Rattle.journal_scan.specs.Gathered.{AreGathered, IsOneMore};
 ghost use Rattle.journal_scan.specs.Journal.{BudRead, IsJournalRead, IsReadable};
@@ -106,7 +106,7 @@ fn gather_one(alloc: Global, bud: &BudText, read: &mut JournalRead) -> Result<()
 
 // Puts nodes in order of number. Those of one number keep their order.
 fn sort_nodes(nodes: &mut Vec<JournalNode>) -> Result<(), Memory>
-    ensures { OnOk result ((xs : List Placed) → nodes.old.items ≡ map told xs → nodes.new.items ≡ map told (in_order xs)) }
+    ensures { OnOk result ((xs : List Placed) → nodes.old.items ≡ map told xs → nodes.new.items ≡ map told (nodes_in_order xs)) }
 {
     nodes.sort_by_key(|node| node.sqnum)?;
     Ok(())

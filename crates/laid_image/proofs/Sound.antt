@@ -29,13 +29,13 @@ use Rattle.fs_model.specs.Proper.{has_kind}
 use Rattle.fs_model.specs.declared.inode.Kind.TheVariants.{Dir}
 use Rattle.sound_image.specs.Buds.{HasBuds}
 use Rattle.sound_image.specs.Frames.{IsKnownAt}
-use Rattle.sound_image.specs.Image.{named_by, parts_of}
+use Rattle.sound_image.specs.Image.{named_by_ref_node, parts_of}
 use Rattle.sound_image.specs.Laid.{IsFreshLog, IsPlainLeaf}
 use Rattle.sound_image.specs.Leaves.{AreCommitted, HasLeaves, IsPlacedIn, IsSoundLeaf, leaves_recovered}
 use Rattle.sound_image.specs.Log.{HasLog}
 use Rattle.sound_image.specs.Sound.{SoundImage}
 use Rattle.sound_image.specs.Tree.{HasLinks, HasTree, IsCopy, ShowsItsNode, is_in_place, is_named_well}
-use Rattle.laid_image.specs.Laid.{IsLaidImage, IsLaidNode, laid_image, leaf_of, tree_of_nodes}
+use Rattle.laid_image.specs.Laid.{IsLaidImage, IsLaidNode, laid_image, leaf_of_placed, tree_of_nodes}
 use Rattle.laid_image.proofs.Unmoved.{found_as_laid, kept_as_laid, none_empty, none_missing, parts_read, read}
 
 -- what other crates' laws give
@@ -56,7 +56,7 @@ shows_all contents geo props [] h = tt
 shows_all contents geo props (x ∷ nodes) h = (h.0.shows, shows_all contents geo props nodes h.1)
 
 committed_stand : (contents : ℕ → List ℕ) (geo : RawGeometry) (props : List Lprop) (nodes : List Placed) → AllByRecursion (IsLaidNode contents geo props) nodes
-    → AreCommitted contents (map leaf_of nodes) (map read nodes)
+    → AreCommitted contents (map leaf_of_placed nodes) (map read nodes)
 committed_stand contents geo props [] h = tt
 committed_stand contents geo props (x ∷ nodes) h = (refl, (record { lnum = refl; offs = refl; len = refl }, h.0.stands), committed_stand contents geo props nodes h.1)
 
@@ -77,10 +77,10 @@ module _ (known : PlainKnown) (contents : ℕ → List ℕ) (bytes : (lnum : ℕ
   abbrev Sound : Leaf → Type 0
   Sound leaf = IsSoundLeaf contents geo props leaf
 
-  sound_leaves : (nodes : List Placed) → AllByRecursion (IsLaidNode contents geo props) nodes → All Sound (map leaf_of nodes)
+  sound_leaves : (nodes : List Placed) → AllByRecursion (IsLaidNode contents geo props) nodes → All Sound (map leaf_of_placed nodes)
   sound_leaves [] h = All-nil Sound
   sound_leaves (x ∷ nodes) h =
-      All-cons Sound (leaf_of x) (map leaf_of nodes) (
+      All-cons Sound (leaf_of_placed x) (map leaf_of_placed nodes) (
         record {
           node = x;
           placed = record { lnum = refl; offs = refl; len = refl };
@@ -95,19 +95,19 @@ module _ (known : PlainKnown) (contents : ℕ → List ℕ) (bytes : (lnum : ℕ
 -- the parts of an image whose log names no bud
 pub plain_parts : (geo : RawGeometry) (latest : PlacedMaster) (props : List Lprop) (placed : PlacedRow) (log : List LogText) (nodes : List Placed) → references_of log ≡ []
     → parts_of (laid_image geo latest props placed log nodes) ≡ parts_read latest.master.highest_inum nodes
-plain_parts geo latest props placed log nodes none = ap (λ (refs : List RefNode). record (parts_read latest.master.highest_inum nodes) { named = map named_by refs }) none
+plain_parts geo latest props placed log nodes none = ap (λ (refs : List RefNode). record (parts_read latest.master.highest_inum nodes) { named = map named_by_ref_node refs }) none
 
-same_leaves : (nodes : List Placed) → map (λ x. x.leaf) (map kept_at nodes) ≡ map leaf_of nodes
+same_leaves : (nodes : List Placed) → map (λ x. x.leaf) (map kept_at nodes) ≡ map leaf_of_placed nodes
 same_leaves [] = refl
-same_leaves (x ∷ nodes) = ap (λ more. leaf_of x ∷ more) (same_leaves nodes)
+same_leaves (x ∷ nodes) = ap (λ more. leaf_of_placed x ∷ more) (same_leaves nodes)
 
-same_keys : (nodes : List Placed) → map (λ (x : Committed). x.leaf.key) (map read nodes) ≡ map (λ x. (leaf_of x).key) nodes
+same_keys : (nodes : List Placed) → map (λ (x : Committed). x.leaf.key) (map read nodes) ≡ map (λ x. (leaf_of_placed x).key) nodes
 same_keys [] = refl
-same_keys (x ∷ nodes) = ap (λ more. (leaf_of x).key ∷ more) (same_keys nodes)
+same_keys (x ∷ nodes) = ap (λ more. (leaf_of_placed x).key ∷ more) (same_keys nodes)
 
-same_committed : (nodes : List Placed) → map (λ (x : Committed). x.leaf) (map read nodes) ≡ map leaf_of nodes
+same_committed : (nodes : List Placed) → map (λ (x : Committed). x.leaf) (map read nodes) ≡ map leaf_of_placed nodes
 same_committed [] = refl
-same_committed (x ∷ nodes) = ap (λ more. leaf_of x ∷ more) (same_committed nodes)
+same_committed (x ∷ nodes) = ap (λ more. leaf_of_placed x ∷ more) (same_committed nodes)
 
 module _ (originals : Originals) (contents : ℕ → List ℕ) (geo : RawGeometry) (latest : PlacedMaster) (props : List Lprop) (placed : PlacedRow) (nodes : List Placed)
     (h : IsLaidImage contents geo latest props placed nodes) where
@@ -124,7 +124,7 @@ module _ (originals : Originals) (contents : ℕ → List ℕ) (geo : RawGeometr
   tree_is = ap (λ kept. tree_of kept (highest_key latest.master.highest_inum (map (λ (x : Committed). x.leaf.key) (map read nodes)))) kept_are
       ∙ ap (λ keys. tree_of (map kept_at nodes) (highest_key latest.master.highest_inum keys)) (same_keys nodes)
 
-  leaves_are : leaves_recovered parts ≡ map leaf_of nodes
+  leaves_are : leaves_recovered parts ≡ map leaf_of_placed nodes
   leaves_are = ap (λ (empty : List Leaf). map (λ x. x.leaf) (recovered_of parts).kept ++ empty) (none_empty latest.master.highest_inum nodes shows)
       ∙ append-nil (map (λ x. x.leaf) (recovered_of parts).kept) ∙ ap (λ (kept : List Kept). map (λ x. x.leaf) kept) kept_are ∙ same_leaves nodes
 

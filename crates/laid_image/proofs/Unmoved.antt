@@ -10,12 +10,12 @@ use Rattle.leaf_map.specs.Allowed.{AreOriginals}
 use Rattle.leaf_map.specs.Kept.{Kept, Placed, kept_at, shown}
 use Rattle.leaf_map.specs.Lost.{empty_names, lost_leaves, missing_leaves}
 use Rattle.leaf_map.specs.Parts.{Committed, Parts, is_shown, own_node}
-use Rattle.leaf_map.specs.Recovered.{is_copied, leaves_found, leaves_left, moved, recovered_of}
-use Rattle.laid_image.specs.Laid.{leaf_of}
+use Rattle.leaf_map.specs.Recovered.{is_copied, leaves_found, leaves_left, moved_to_its_copy, recovered_of}
+use Rattle.laid_image.specs.Laid.{leaf_of_placed}
 
 -- a leaf as it was read: with the node that stands at its place
 abbrev pub read : Placed → Committed
-read x = record { leaf = leaf_of x; found = Some x }
+read x = record { leaf = leaf_of_placed x; found = Some x }
 
 -- what a mount has read of such leaves
 abbrev pub parts_read : ℕ → List Placed → Parts
@@ -30,7 +30,7 @@ same_itself x = rw (same_number (leaf_rank x), same_number x.lnum, same_number x
 
 -- each node is its leaf's own
 own : (x : Placed) → is_shown (shown x.node) ≡ true → own_node [] (read x) ≡ Some x
-own x s = rw (s, same_itself (leaf_of x)) refl
+own x s = rw (s, same_itself (leaf_of_placed x)) refl
 
 abbrev Show : List Placed → Type 0
 Show nodes = AllByRecursion (λ x. is_shown (shown x.node) ≡ true) nodes
@@ -45,16 +45,16 @@ none_lost [] s = refl
 none_lost (x ∷ nodes) s = rw (own x s.0) (none_lost nodes s.1)
 
 -- where there are no copies, a leaf stays where it is
-stays : (highest : ℕ) (nodes : List Placed) (kept : List Kept) (x : Kept) → moved (parts_read highest nodes) kept x ≡ x
+stays : (highest : ℕ) (nodes : List Placed) (kept : List Kept) (x : Kept) → moved_to_its_copy (parts_read highest nodes) kept x ≡ x
 stays highest nodes kept x = either (is_copied [] kept x.leaf.lnum)
   where
     either : (b : Bool) → cond b x x ≡ x
     either true = refl
     either false = refl
 
-all_stay : (highest : ℕ) (nodes : List Placed) (all kept : List Kept) → map (moved (parts_read highest nodes) all) kept ≡ kept
+all_stay : (highest : ℕ) (nodes : List Placed) (all kept : List Kept) → map (moved_to_its_copy (parts_read highest nodes) all) kept ≡ kept
 all_stay highest nodes all [] = refl
-all_stay highest nodes all (x ∷ kept) = ap (λ y. y ∷ map (moved (parts_read highest nodes) all) kept) (stays highest nodes all x) ∙ ap (λ more. x ∷ more) (all_stay highest nodes all kept)
+all_stay highest nodes all (x ∷ kept) = ap (λ y. y ∷ map (moved_to_its_copy (parts_read highest nodes) all) kept) (stays highest nodes all x) ∙ ap (λ more. x ∷ more) (all_stay highest nodes all kept)
 
 module _ (found : (parts : Parts) (kept : List Kept) → AreOriginals parts.named kept parts.committed → leaves_found parts ≡ kept) where
   pub found_as_laid : (highest : ℕ) (nodes : List Placed) → Show nodes → leaves_found (parts_read highest nodes) ≡ map kept_at nodes

@@ -34,12 +34,12 @@ use Rattle.sound_image.specs.Superblock.{HasSuperblock}
 use Rattle.sound_image.specs.Tree.{HasLinks, is_in_place, is_named_well}
 
 -- the leaf that a node becomes where it stands
-abbrev pub leaf_of : Placed → Leaf
-leaf_of x = (kept_at x).leaf
+abbrev pub leaf_of_placed : Placed → Leaf
+leaf_of_placed x = (kept_at x).leaf
 
 -- the tree that nodes show, under a master that says this highest inode number
 abbrev pub tree_of_nodes : Master → List Placed → Tree
-tree_of_nodes master nodes = tree_of (map kept_at nodes) (highest_key master.highest_inum (map (λ x. (leaf_of x).key) nodes))
+tree_of_nodes master nodes = tree_of (map kept_at nodes) (highest_key master.highest_inum (map (λ x. (leaf_of_placed x).key) nodes))
 
 -- a leaf node of the grammar stands whole at its place, in a main LEB that isn't marked as the index's; it says nothing of attributes, and shows an inode of a
 -- known kind, a block or a name
@@ -76,9 +76,9 @@ pub record IsLaidImage (contents : ℕ → List ℕ) (geo : RawGeometry) (latest
   pub number : sqnum < 2 ^ 64
   pub commit : latest.master.cmt_no < 2 ^ 64
   pub log : IsFreshLog contents geo latest.master.log_lnum sqnum latest.master.cmt_no
-  pub leaves : leaves_in (plain placed) ≡ map leaf_of nodes
-  pub distinct : AreDistinct (map leaf_of nodes)
-  pub disjoint : IsTrue (are_disjoint (map branch_to (map leaf_of nodes)))
+  pub leaves : leaves_in (plain placed) ≡ map leaf_of_placed nodes
+  pub distinct : AreDistinct (map leaf_of_placed nodes)
+  pub disjoint : IsTrue (are_disjoint (map branch_to (map leaf_of_placed nodes)))
   pub stand : AllByRecursion (IsLaidNode contents geo props) nodes
   pub sums : HasSums geo props placed
   pub ends : AreEndsBlank contents geo latest.master props
@@ -95,6 +95,6 @@ laid_image geo latest props placed log nodes = record {
   placed = placed;
   log = log;
   buds = [];
-  committed = map (λ x. record { leaf = leaf_of x; found = Some x }) nodes;
+  committed = map (λ x. record { leaf = leaf_of_placed x; found = Some x }) nodes;
   listed = [];
 }

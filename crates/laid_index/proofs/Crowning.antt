@@ -18,7 +18,7 @@ use Rattle.index_media.specs.Keys.{AreBounded, IsAtMost, bound_before, branch_ra
 use Rattle.index_media.specs.PlacedRow.{PlacedRow, ended, leaf_at, node_at, all_nodes, branch_to, branches_of, plain}
 use Rattle.index_media.specs.Stored.{AreStored, IsIndexNodeAt, IsStoredIndex}
 use Rattle.laid_index.specs.Crowned.{IsCrowned, IsRowLaid}
-use Rattle.laid_index.specs.Opened.{GoesOn, Lays, taken_after, taken_of}
+use Rattle.laid_index.specs.Opened.{GoesOnInLeb, Lays, taken_after, bytes_taken_of}
 use Rattle.laid_index.specs.Rows.{AreOver, HasFirstKey, IsGrown, StandOver, parents, row_front}
 use Rattle.laid_index.specs.declared.open_leb.OpenLeb.{OpenLeb}
 use Rattle.laid_index.proofs.Growing.{parents_all, parents_branches, parents_count, parents_grown, parents_leaves, parents_nodes}
@@ -27,11 +27,11 @@ use Rattle.laid_index.proofs.Takes.{takes_among}
 -- A level is laid over a row.
 pub row_grows : (geo : RawGeometry) (sqnum levels : ℕ) (leaves : List Leaf) (row : PlacedRow) (lens : List ℕ) (made : List Branch) (old new : OpenLeb) (was now : ℕ → List ℕ)
     → 1 ≤ geo.fanout → IsRowLaid geo sqnum levels leaves row old was → Lays geo lens made old was new now → AreOver geo.fanout (branches_of row) made []
-    → ((contents : ℕ → List ℕ) → GoesOn new now contents → StandOver contents geo.fanout levels (branches_of row) made)
+    → ((contents : ℕ → List ℕ) → GoesOnInLeb new now contents → StandOver contents geo.fanout levels (branches_of row) made)
     → IsRowLaid geo sqnum (levels + 1) leaves (parents geo.fanout made row) new now
 row_grows geo sqnum levels leaves row lens made old new was now one laid lays over stand = record {
   grown = λ contents c. parents_grown contents geo.fanout levels made [] row one over (stand contents c) (laid.grown contents (lays.goes_on contents c));
-  takes = takes_among new.first (taken_of new) (all_nodes row ++ made) (all_nodes (parents geo.fanout made row)) (λ k. parents_nodes geo.fanout k made row over)
+  takes = takes_among new.first (bytes_taken_of new) (all_nodes row ++ made) (all_nodes (parents geo.fanout made row)) (λ k. parents_nodes geo.fanout k made row over)
       (λ P. parents_all P geo.fanout made row) (lays.takes (all_nodes row) laid.takes);
   number = let a = lays.number in let b = laid.number in let c = parents_count geo.fanout made row over in omega (arith, a, b, c);
   holds_leaves = parents_leaves geo.fanout made row over ∙ laid.holds_leaves;
@@ -40,8 +40,8 @@ row_grows geo sqnum levels leaves row lens made old new was now one laid lays ov
 -- A root is laid over a row.
 pub row_roots : (geo : RawGeometry) (levels : ℕ) (siblings : List Branch) (lens : List ℕ) (root : Branch) (old new : OpenLeb) (was now : ℕ → List ℕ)
     → 1 ≤ geo.fanout → length siblings ≤ geo.fanout → Lays geo lens (root ∷ []) old was new now → HasFirstKey root siblings
-    → ((contents : ℕ → List ℕ) → GoesOn new now contents → IsIndexNodeAt contents root (record { level = levels; branches = siblings }))
-    → taken_of new ≡ taken_after geo old lens
+    → ((contents : ℕ → List ℕ) → GoesOnInLeb new now contents → IsIndexNodeAt contents root (record { level = levels; branches = siblings }))
+    → bytes_taken_of new ≡ taken_after geo old lens
     → IsCrowned geo levels siblings lens old was root new now
 row_roots geo levels siblings lens root old new was now one few lays key stand after = record {
   is_open = lays.is_open;
@@ -49,7 +49,7 @@ row_roots geo levels siblings lens root old new was now one few lays key stand a
   after = after;
   row = λ sqnum leaves row e laid.
       let P : List Branch → Type 0 = λ l. AreOver geo.fanout l (root ∷ []) [] in
-      let Q : List Branch → Type 0 = λ l. (contents : ℕ → List ℕ) → GoesOn new now contents → StandOver contents geo.fanout levels l (root ∷ []) in (
+      let Q : List Branch → Type 0 = λ l. (contents : ℕ → List ℕ) → GoesOnInLeb new now contents → StandOver contents geo.fanout levels l (root ∷ []) in (
         levels + 1,
         (
           row_front geo.fanout row,
@@ -63,7 +63,7 @@ row_roots geo levels siblings lens root old new was now one few lays key stand a
 -- A level is laid, and above it a root.
 pub row_rises : (geo : RawGeometry) (levels : ℕ) (siblings made : List Branch) (lens above : List ℕ) (root : Branch) (old mid new : OpenLeb) (was then' now : ℕ → List ℕ)
     → 1 ≤ geo.fanout → Lays geo lens made old was mid then' → AreOver geo.fanout siblings made []
-    → ((contents : ℕ → List ℕ) → GoesOn mid then' contents → StandOver contents geo.fanout levels siblings made)
+    → ((contents : ℕ → List ℕ) → GoesOnInLeb mid then' contents → StandOver contents geo.fanout levels siblings made)
     → IsCrowned geo (levels + 1) made above mid then' root new now
     → IsCrowned geo levels siblings (lens ++ above) old was root new now
 row_rises geo levels siblings made lens above root old mid new was then' now one lays over stand crowned = record {
@@ -72,7 +72,7 @@ row_rises geo levels siblings made lens above root old mid new was then' now one
   after = crowned.after ∙ lays.after above;
   row = λ sqnum leaves row e laid.
       let P : List Branch → Type 0 = λ l. AreOver geo.fanout l made [] in
-      let Q : List Branch → Type 0 = λ l. (contents : ℕ → List ℕ) → GoesOn mid then' contents → StandOver contents geo.fanout levels l made in
+      let Q : List Branch → Type 0 = λ l. (contents : ℕ → List ℕ) → GoesOnInLeb mid then' contents → StandOver contents geo.fanout levels l made in
       crowned.row sqnum leaves (parents geo.fanout made row) (parents_branches geo.fanout made row)
       (row_grows geo sqnum levels leaves row lens made old mid was then' one laid lays (subst P (sym e) over) (subst Q (sym e) stand));
 }

@@ -12,10 +12,10 @@ use Rattle.index_tree.specs.Keyed.{HaveKeys}
 use Rattle.index_tree.specs.Shape.{contents as leaves_in}
 use Rattle.index_tree.specs.declared.leaf.Leaf.{Leaf}
 use Rattle.index_media.specs.PlacedRow.{PlacedRow, ended, leaf_at, node_at, all_nodes, branch_to, branches_of, plain}
-use Rattle.laid_main.specs.Filling.{AreFilled, Takes}
+use Rattle.laid_main.specs.Filling.{AreFilled, TakesOfLebs}
 use Rattle.laid_index.specs.Crowned.{IsCrowned, IsRowLaid}
 use Rattle.laid_index.specs.Indexed.{IsLaidIndex}
-use Rattle.laid_index.specs.Opened.{GoesOn, IsClosed, IsReady, open_lnum, taken_after, taken_of}
+use Rattle.laid_index.specs.Opened.{GoesOnInLeb, IsClosed, AreNodesReady, open_lnum, taken_after, bytes_taken_of}
 use Rattle.laid_index.specs.Packing.{index_lens, index_used, lens_above, packed}
 use Rattle.laid_index.specs.Rows.{AreInOrder, IsGrown}
 use Rattle.laid_index.specs.declared.laid_index.LaidIndex.{LaidIndex}
@@ -37,7 +37,7 @@ fresh_taken geo first sqnum leb lens f =
     ap (λ (l : List ℕ). l ++ packed geo.leb_size (length leb.bytes.items) lens) f.used ∙ ap (λ (l : List ℕ). packed geo.leb_size (length l) lens) f.bytes
 
 pub fresh_ready : (geo : RawGeometry) (first sqnum n : ℕ) (leb : OpenLeb) (was : ℕ → List ℕ) → IsGeometry geo → IsFresh first sqnum leb → 0 < n → first + length (index_used geo n) ≤ geo.leb_cnt → sqnum + n < 2 ^ 64
-    → IsReady geo (lens_above n geo.fanout n) leb was
+    → AreNodesReady geo (lens_above n geo.fanout n) leb was
 fresh_ready geo first sqnum n leb was g f some room number =
     let A : List ℕ → Type 0 = λ l. AreFilled geo was leb.first l in
     let none : length leb.bytes.items ≡ 0 = ap length f.bytes in
@@ -88,10 +88,10 @@ row_grown contents f (x ∷ xs) = (refl, row_grown contents f xs)
 
 fresh_row : (geo : RawGeometry) (first sqnum : ℕ) (xs : List Leaf) (leb : OpenLeb) (was : ℕ → List ℕ) → IsFresh first sqnum leb → IsRowLaid geo sqnum 0 xs (row_of xs) leb was
 fresh_row geo first sqnum xs leb was f =
-    let T : List Branch → Type 0 = λ l. Takes leb.first (taken_of leb) l in
-    let U : List ℕ → Type 0 = λ l. Takes leb.first l [] in
+    let T : List Branch → Type 0 = λ l. TakesOfLebs leb.first (bytes_taken_of leb) l in
+    let U : List ℕ → Type 0 = λ l. TakesOfLebs leb.first l [] in
     let none : length leb.bytes.items ≡ 0 = ap length f.bytes in
-    let same : taken_of leb ≡ length leb.bytes.items ∷ [] = ap (λ (l : List ℕ). l ++ length leb.bytes.items ∷ []) f.used in
+    let same : bytes_taken_of leb ≡ length leb.bytes.items ∷ [] = ap (λ (l : List ℕ). l ++ length leb.bytes.items ∷ []) f.used in
     let count = ap length (row_nodes xs) in
     let number = f.number in
     record {
@@ -114,15 +114,15 @@ index_laid geo xs first sqnum root made start leb shut old was now keys order fr
     let children = top.1.0 in
     let laid = top.1.1 in
     let placed = node_at root children ended in
-    let on : GoesOn shut now now = record { closed = λ k lt. refl; front = (let P : List ℕ → Type 0 = λ l. take (length l) (now (open_lnum shut)) ≡ l in subst P (sym closed.bytes) refl) } in
+    let on : GoesOnInLeb shut now now = record { closed = λ k lt. refl; front = (let P : List ℕ → Type 0 = λ l. take (length l) (now (open_lnum shut)) ≡ l in subst P (sym closed.bytes) refl) } in
     let grown = laid.grown now (closed_goes_on geo leb shut was now now closed same on) in
     let A : List Leaf → Type 0 = λ l. Ascend 0 l in
     let ascend = subst A (sym laid.holds_leaves) (leaves_ascend xs (leaves_keyed xs keys) order) in
     let I : Branch → Type 0 = λ b. IsLaidIndex geo now xs first sqnum (record made { root = b }) in
-    let used : made.used.items ≡ taken_of leb = is_used ∙ closed.used in
+    let used : made.used.items ≡ bytes_taken_of leb = is_used ∙ closed.used in
     let from : leb.first ≡ first = crowned.first ∙ fresh.begins in
-    let T : List ℕ → Type 0 = λ l. Takes first l (all_nodes placed) in
-    let F : ℕ → Type 0 = λ n. Takes n (taken_of leb) (all_nodes placed) in
+    let T : List ℕ → Type 0 = λ l. TakesOfLebs first l (all_nodes placed) in
+    let F : ℕ → Type 0 = λ n. TakesOfLebs n (bytes_taken_of leb) (all_nodes placed) in
     let G : List ℕ → Type 0 = λ l. AreFilled geo now first l in
     let H : ℕ → Type 0 = λ n. AreFilled geo now n shut.used.items in
     let whole : IsLaidIndex geo now xs first sqnum (record made { root = root }) = record {

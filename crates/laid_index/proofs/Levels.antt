@@ -11,8 +11,8 @@ use Rattle.ubifs_base.specs.declared.raw_geometry.RawGeometry.{RawGeometry}
 use Rattle.media_sys.specs.Index.{IsIdxNode, in_order, is_entry, may_follow}
 use Rattle.media_sys.specs.declared.branch.Branch.{Branch}
 use Rattle.index_media.specs.Stored.{IsIndexNodeAt}
-use Rattle.laid_main.specs.Filling.{Takes}
-use Rattle.laid_index.specs.Opened.{GoesOn, IsOpen, IsReady, Lays, taken_after, taken_of}
+use Rattle.laid_main.specs.Filling.{TakesOfLebs}
+use Rattle.laid_index.specs.Opened.{GoesOnInLeb, IsLebOpen, AreNodesReady, Lays, taken_after, bytes_taken_of}
 use Rattle.laid_index.specs.Packing.{len_over, level_lens}
 use Rattle.laid_index.specs.Rows.{AreInOrder, AreOver, HasFirstKey, StandOver}
 use Rattle.laid_index.specs.declared.open_leb.OpenLeb.{OpenLeb}
@@ -20,12 +20,12 @@ use Rattle.laid_index.proofs.Making.{more_taken}
 use Rattle.laid_index.proofs.Packs.{level_none, level_step}
 
 -- nothing is laid yet
-pub lays_none : (geo : RawGeometry) (leb : OpenLeb) (was : ℕ → List ℕ) → IsOpen geo leb was → Lays geo [] [] leb was leb was
+pub lays_none : (geo : RawGeometry) (leb : OpenLeb) (was : ℕ → List ℕ) → IsLebOpen geo leb was → Lays geo [] [] leb was leb was
 lays_none geo leb was o = record {
   is_open = o;
   first = refl;
   goes_on = λ contents c. c;
-  takes = λ before h. let P : List Branch → Type 0 = λ l. Takes leb.first (taken_of leb) l in subst P (sym (append-nil before)) h;
+  takes = λ before h. let P : List Branch → Type 0 = λ l. TakesOfLebs leb.first (bytes_taken_of leb) l in subst P (sym (append-nil before)) h;
   after = λ lens. refl;
   number = omega arith;
   many = refl;
@@ -39,7 +39,7 @@ lays_then geo xs ys ps qs old mid new was then' now a b = record {
   first = b.first ∙ a.first;
   goes_on = λ contents c. a.goes_on contents (b.goes_on contents c);
   takes = λ before h.
-      let P : List Branch → Type 0 = λ l. Takes new.first (taken_of new) l in
+      let P : List Branch → Type 0 = λ l. TakesOfLebs new.first (bytes_taken_of new) l in
       subst P (append_assoc before ps qs) (b.takes (before ++ ps) (a.takes before h));
   after = λ lens. b.after lens ∙ a.after (ys ++ lens) ∙ ap (taken_after geo old) (sym (append_assoc xs ys lens));
   number = let m = a.number in let n = b.number in let l = length-append ps qs in omega (arith, m, n, l);
@@ -63,10 +63,10 @@ pub record IsLevelUnderWay (geo : RawGeometry) (level : ℕ) (siblings made rest
   pub split : level_lens geo.fanout (length siblings) ≡ lens ++ level_lens geo.fanout (length rest)
   pub lays : Lays geo lens made old was new now
   pub over : AreOver geo.fanout siblings made rest
-  pub stand : (contents : ℕ → List ℕ) → GoesOn new now contents → StandOver contents geo.fanout level siblings made
+  pub stand : (contents : ℕ → List ℕ) → GoesOnInLeb new now contents → StandOver contents geo.fanout level siblings made
   pub order : AreInOrder rest
 
-pub level_begins : (geo : RawGeometry) (level : ℕ) (siblings : List Branch) (leb : OpenLeb) (was : ℕ → List ℕ) → IsOpen geo leb was → AreInOrder siblings
+pub level_begins : (geo : RawGeometry) (level : ℕ) (siblings : List Branch) (leb : OpenLeb) (was : ℕ → List ℕ) → IsLebOpen geo leb was → AreInOrder siblings
     → IsLevelUnderWay geo level siblings [] siblings leb was leb was
 level_begins geo level siblings leb was o order = record { lens = []; split = refl; lays = lays_none geo leb was o; over = refl; stand = λ contents c. tt; order = order }
 
@@ -109,7 +109,7 @@ next_node level n f rest is some one most order =
 
 -- and be laid
 pub next_ready : (geo : RawGeometry) (level n : ℕ) (siblings made rest : List Branch) (old new : OpenLeb) (was now : ℕ → List ℕ) → IsGeometry geo → n ≡ min (length rest) geo.fanout → 0 < length rest
-    → IsReady geo (level_lens geo.fanout (length siblings)) old was → IsLevelUnderWay geo level siblings made rest old was new now → IsReady geo (len_over n ∷ []) new now
+    → AreNodesReady geo (level_lens geo.fanout (length siblings)) old was → IsLevelUnderWay geo level siblings made rest old was new now → AreNodesReady geo (len_over n ∷ []) new now
 next_ready geo level n siblings made rest old new was now g is some ready under =
     let wide = g.fanout.0 in
     let more = level_lens geo.fanout (length rest - n) in
@@ -151,7 +151,7 @@ pub level_more : (geo : RawGeometry) (level n : ℕ) (siblings made rest own beh
     → n ≡ min (length rest) geo.fanout → 0 < length rest → own ≡ take n rest → behind ≡ drop n rest
     → IsLevelUnderWay geo level siblings made rest old was mid then'
     → Lays geo (len_over (length own) ∷ []) (b ∷ []) mid then' new now
-    → ((contents : ℕ → List ℕ) → GoesOn new now contents → IsIndexNodeAt contents b (record { level = level; branches = own }))
+    → ((contents : ℕ → List ℕ) → GoesOnInLeb new now contents → IsIndexNodeAt contents b (record { level = level; branches = own }))
     → HasFirstKey b own
     → IsLevelUnderWay geo level siblings (made ++ b ∷ []) behind old was new now
 level_more geo level n siblings made rest own behind b old mid new was then' now g is some own_is behind_is under lays stands key =

@@ -17,8 +17,8 @@ use Rattle.media_sys.specs.SystemNode.{index, IsSystemNode, written}
 use Rattle.media_sys.specs.declared.branch.Branch.{Branch}
 use Rattle.index_media.specs.PlacedRow.{node_end}
 use Rattle.index_media.specs.Stored.{IsIndexNodeAt}
-use Rattle.laid_main.specs.Filling.{AreFilled, Takes}
-use Rattle.laid_index.specs.Opened.{GoesOn, IsAppended, IsClosed, IsOpen, Lays, MakesRoom, node_text, open_lnum, taken_of}
+use Rattle.laid_main.specs.Filling.{AreFilled, TakesOfLebs}
+use Rattle.laid_index.specs.Opened.{GoesOnInLeb, IsNodeAppended, IsClosed, IsLebOpen, Lays, MakesRoom, node_text, open_lnum, bytes_taken_of}
 use Rattle.laid_index.specs.Packing.{len_over, packed}
 use Rattle.laid_index.specs.declared.open_leb.OpenLeb.{OpenLeb}
 use Rattle.laid_index.proofs.Packs.{packed_fits, packed_next}
@@ -36,8 +36,8 @@ words_stay : (taken len : ℕ) → taken % 8 ≡ 0 → (taken + node_end len) % 
 words_stay taken len a = omega (arith, a)
 
 -- A node that fits is put into the buffer.
-pub node_laid : (geo : RawGeometry) (said : Index) (b : Branch) (old new : OpenLeb) (was : ℕ → List ℕ) → IsGeometry geo → IsOpen geo old was
-    → length old.bytes.items + len_over (length said.branches) ≤ geo.leb_size → IsAppended said old new
+pub node_laid : (geo : RawGeometry) (said : Index) (b : Branch) (old new : OpenLeb) (was : ℕ → List ℕ) → IsGeometry geo → IsLebOpen geo old was
+    → length old.bytes.items + len_over (length said.branches) ≤ geo.leb_size → IsNodeAppended said old new
     → b.lnum ≡ open_lnum old → b.offs ≡ length old.bytes.items → b.len ≡ len_over (length said.branches)
     → Lays geo (len_over (length said.branches) ∷ []) (b ∷ []) old was new was
 node_laid geo said b old new was g o fits put lnum offs len =
@@ -60,10 +60,10 @@ node_laid geo said b old new was g o fits put lnum offs len =
       };
       takes = λ before h.
           let t = takes_append old.first old.used.items (length old.bytes.items) before b lnum h in
-          let T : ℕ → Type 0 = λ f. Takes f (taken_of new) (before ++ b ∷ []) in
-          let U : List ℕ → Type 0 = λ used. Takes old.first used (before ++ b ∷ []) in
+          let T : ℕ → Type 0 = λ f. TakesOfLebs f (bytes_taken_of new) (before ++ b ∷ []) in
+          let U : List ℕ → Type 0 = λ used. TakesOfLebs old.first used (before ++ b ∷ []) in
           let e : length old.bytes.items + node_end b.len ≡ length new.bytes.items = ap (λ (m : ℕ). length old.bytes.items + node_end m) len ∙ sym long in
-          let same : old.used.items ++ (length old.bytes.items + node_end b.len) ∷ [] ≡ taken_of new = ap (λ (m : ℕ). old.used.items ++ m ∷ []) e ∙ ap (λ (l : List ℕ). l ++ length new.bytes.items ∷ []) (sym put.used) in
+          let same : old.used.items ++ (length old.bytes.items + node_end b.len) ∷ [] ≡ bytes_taken_of new = ap (λ (m : ℕ). old.used.items ++ m ∷ []) e ∙ ap (λ (l : List ℕ). l ++ length new.bytes.items ∷ []) (sym put.used) in
           subst T (sym put.first) (subst U same t);
       after = λ lens.
           ap (λ (l : List ℕ). l ++ packed geo.leb_size (length new.bytes.items) lens) put.used
@@ -85,8 +85,8 @@ node_laid geo said b old new was g o fits put lnum offs len =
         sym (take-take (length xs) (length (xs ++ ys)) leb le) ∙ ap (take (length xs)) h ∙ take_at xs ys (length xs) refl
 
 -- it stands there
-pub node_stands : (said : Index) (b : Branch) (old new : OpenLeb) (now contents : ℕ → List ℕ) → IsAppended said old new
-    → b.lnum ≡ open_lnum old → b.offs ≡ length old.bytes.items → b.len ≡ len_over (length said.branches) → GoesOn new now contents → IsIndexNodeAt contents b said
+pub node_stands : (said : Index) (b : Branch) (old new : OpenLeb) (now contents : ℕ → List ℕ) → IsNodeAppended said old new
+    → b.lnum ≡ open_lnum old → b.offs ≡ length old.bytes.items → b.len ≡ len_over (length said.branches) → GoesOnInLeb new now contents → IsIndexNodeAt contents b said
 node_stands said b old new now contents put lnum offs len c =
     let n = len_over (length said.branches) in
     let node = written old.sqnum 0 (index said) in
@@ -122,8 +122,8 @@ node_stands said b old new now contents put lnum offs len c =
         ap (λ (l : List ℕ). take (length ys) (drop (length xs) l)) e ∙ ap (take (length ys)) (drop_at xs (ys ++ (zs ++ rest)) (length xs) refl) ∙ take_at ys (zs ++ rest) (length ys) refl
 
 -- A LEB is closed, and the next one is open.
-pub closed_open : (geo : RawGeometry) (old new : OpenLeb) (was now : ℕ → List ℕ) → IsOpen geo old was → 0 < length old.bytes.items → IsClosed geo old new now
-    → ((k : ℕ) → k ≢ open_lnum old → now k ≡ was k) → IsOpen geo new now
+pub closed_open : (geo : RawGeometry) (old new : OpenLeb) (was now : ℕ → List ℕ) → IsLebOpen geo old was → 0 < length old.bytes.items → IsClosed geo old new now
+    → ((k : ℕ) → k ≢ open_lnum old → now k ≡ was k) → IsLebOpen geo new now
 closed_open geo old new was now o some shut same =
     let A : ℕ → Type 0 = λ f. AreFilled geo now f new.used.items in
     let B : List ℕ → Type 0 = λ used. AreFilled geo now old.first used in
@@ -165,7 +165,7 @@ closed_open geo old new was now o some shut same =
         subst P (sym (ap (drop end) holds ∙ drop_at text rest end long)) (blank_replicate (geo.leb_size - length text))
 
 pub closed_goes_on : (geo : RawGeometry) (old new : OpenLeb) (was now contents : ℕ → List ℕ) → IsClosed geo old new now
-    → ((k : ℕ) → k ≢ open_lnum old → now k ≡ was k) → GoesOn new now contents → GoesOn old was contents
+    → ((k : ℕ) → k ≢ open_lnum old → now k ≡ was k) → GoesOnInLeb new now contents → GoesOnInLeb old was contents
 closed_goes_on geo old new was now contents shut same c =
     let place : open_lnum new ≡ open_lnum old + 1 =
     let e = ap length shut.used in
@@ -181,12 +181,12 @@ closed_goes_on geo old new was now contents shut same c =
           ∙ take_at old.bytes.items (gap ++ replicate (geo.leb_size - length text) 255) (length old.bytes.items) refl;
     }
 
-pub closed_taken : (geo : RawGeometry) (old new : OpenLeb) (now : ℕ → List ℕ) → IsClosed geo old new now → taken_of new ≡ taken_of old ++ 0 ∷ []
+pub closed_taken : (geo : RawGeometry) (old new : OpenLeb) (now : ℕ → List ℕ) → IsClosed geo old new now → bytes_taken_of new ≡ bytes_taken_of old ++ 0 ∷ []
 closed_taken geo old new now shut =
-    ap (λ (l : List ℕ). l ++ length new.bytes.items ∷ []) shut.used ∙ ap (λ (n : ℕ). taken_of old ++ n ∷ []) (ap length shut.bytes)
+    ap (λ (l : List ℕ). l ++ length new.bytes.items ∷ []) shut.used ∙ ap (λ (n : ℕ). bytes_taken_of old ++ n ∷ []) (ap length shut.bytes)
 
 -- There is room for a node already.
-pub room_already : (geo : RawGeometry) (len : ℕ) (leb : OpenLeb) (was : ℕ → List ℕ) → IsOpen geo leb was → length leb.bytes.items + len ≤ geo.leb_size → open_lnum leb < geo.leb_cnt
+pub room_already : (geo : RawGeometry) (len : ℕ) (leb : OpenLeb) (was : ℕ → List ℕ) → IsLebOpen geo leb was → length leb.bytes.items + len ≤ geo.leb_size → open_lnum leb < geo.leb_cnt
     → MakesRoom geo len leb was leb was
 room_already geo len leb was o fits lnum = record {
   is_open = o;
@@ -200,7 +200,7 @@ room_already geo len leb was o fits lnum = record {
 }
 
 -- There is room in the next LEB.
-pub room_next : (geo : RawGeometry) (len : ℕ) (old new : OpenLeb) (was now : ℕ → List ℕ) → IsOpen geo old was → 0 < length old.bytes.items → IsClosed geo old new now
+pub room_next : (geo : RawGeometry) (len : ℕ) (old new : OpenLeb) (was now : ℕ → List ℕ) → IsLebOpen geo old was → 0 < length old.bytes.items → IsClosed geo old new now
     → ((k : ℕ) → k ≢ open_lnum old → now k ≡ was k) → geo.leb_size < length old.bytes.items + len → len ≤ geo.leb_size → open_lnum old + 1 < geo.leb_cnt
     → MakesRoom geo len old was new now
 room_next geo len old new was now o some shut same over fits lnum =
@@ -218,9 +218,9 @@ room_next geo len old new was now o some shut same over fits lnum =
       lnum = omega (arith, lnum, place);
       goes_on = λ contents c. closed_goes_on geo old new was now contents shut same c;
       takes = λ before h.
-          let T : ℕ → Type 0 = λ f. Takes f (taken_of new) before in
-          let U : List ℕ → Type 0 = λ used. Takes old.first used before in
-          subst T (sym shut.first) (subst U (sym (closed_taken geo old new now shut)) (takes_close old.first (taken_of old) before h));
+          let T : ℕ → Type 0 = λ f. TakesOfLebs f (bytes_taken_of new) before in
+          let U : List ℕ → Type 0 = λ used. TakesOfLebs old.first used before in
+          subst T (sym shut.first) (subst U (sym (closed_taken geo old new now shut)) (takes_close old.first (bytes_taken_of old) before h));
       after = λ lens.
           ap (λ (l : List ℕ). l ++ packed geo.leb_size (length new.bytes.items) (len ∷ lens)) shut.used
           ∙ ap (λ (n : ℕ). old.used.items ++ length old.bytes.items ∷ [] ++ packed geo.leb_size n (len ∷ lens)) none
@@ -230,7 +230,7 @@ room_next geo len old new was now o some shut same over fits lnum =
 
 -- Room is made, and the node is put there.
 pub then_laid : (geo : RawGeometry) (said : Index) (b : Branch) (old mid new : OpenLeb) (was now : ℕ → List ℕ) → IsGeometry geo
-    → MakesRoom geo (len_over (length said.branches)) old was mid now → IsAppended said mid new
+    → MakesRoom geo (len_over (length said.branches)) old was mid now → IsNodeAppended said mid new
     → b.lnum ≡ open_lnum mid → b.offs ≡ length mid.bytes.items → b.len ≡ len_over (length said.branches)
     → Lays geo (len_over (length said.branches) ∷ []) (b ∷ []) old was new now
 then_laid geo said b old mid new was now g room put lnum offs len =

@@ -7,7 +7,7 @@ use Rattle.std.proofs.lemmas.Grind.{pow_more}
 use Rattle.std.proofs.lemmas.Nat.{pow_below}
 use Rattle.ubifs_base.specs.declared.raw_geometry.RawGeometry.{RawGeometry}
 use Rattle.media_sys.specs.declared.branch.Branch.{Branch}
-use Rattle.laid_index.specs.Opened.{IsReady, Lays, taken_after, taken_of}
+use Rattle.laid_index.specs.Opened.{AreNodesReady, Lays, taken_after, bytes_taken_of}
 use Rattle.laid_index.specs.Packing.{len_over, lens_above, level_lens}
 use Rattle.laid_index.specs.declared.open_leb.OpenLeb.{OpenLeb}
 use Rattle.laid_index.proofs.Making.{more_taken}
@@ -39,7 +39,7 @@ level_high n q level half h =
     let m : 2 * q * p ≤ n * p = mul-le-mul_right p half in
     omega (arith, f, g, m, h)
 
-pub ready_level : (geo : RawGeometry) (n : ℕ) (leb : OpenLeb) (was : ℕ → List ℕ) → 3 ≤ geo.fanout → geo.fanout < n → IsReady geo (lens_above n geo.fanout n) leb was → IsReady geo (level_lens geo.fanout n) leb was
+pub ready_level : (geo : RawGeometry) (n : ℕ) (leb : OpenLeb) (was : ℕ → List ℕ) → 3 ≤ geo.fanout → geo.fanout < n → AreNodesReady geo (lens_above n geo.fanout n) leb was → AreNodesReady geo (level_lens geo.fanout n) leb was
 ready_level geo n leb was wide lt ready =
     let f = geo.fanout in
     let above = lens_above (div_ceil n f) f (div_ceil n f) in
@@ -52,8 +52,8 @@ ready_level geo n leb was wide lt ready =
     let number = ready.number in
     record { is_open = ready.is_open; room = omega (arith, a, b, room); number = omega (arith, c, d, number) }
 
-pub ready_root : (geo : RawGeometry) (n : ℕ) (leb : OpenLeb) (was : ℕ → List ℕ) → 0 < n → n ≤ geo.fanout → IsReady geo (lens_above n geo.fanout n) leb was → IsReady geo (len_over n ∷ []) leb was
-ready_root geo n leb was some le ready = let P : List ℕ → Type 0 = λ l. IsReady geo l leb was in subst P (lens_root geo.fanout n some le) ready
+pub ready_root : (geo : RawGeometry) (n : ℕ) (leb : OpenLeb) (was : ℕ → List ℕ) → 0 < n → n ≤ geo.fanout → AreNodesReady geo (lens_above n geo.fanout n) leb was → AreNodesReady geo (len_over n ∷ []) leb was
+ready_root geo n leb was some le ready = let P : List ℕ → Type 0 = λ l. AreNodesReady geo l leb was in subst P (lens_root geo.fanout n some le) ready
 
 -- how many nodes a level has
 pub made_count : (geo : RawGeometry) (n : ℕ) (made : List Branch) (old new : OpenLeb) (was now : ℕ → List ℕ) → Lays geo (level_lens geo.fanout n) made old was new now → length made ≡ div_ceil n geo.fanout
@@ -65,8 +65,8 @@ pub lens_made : (geo : RawGeometry) (n : ℕ) (made : List Branch) (old new : Op
 lens_made geo n made old new was now wide lt lays =
     lens_level geo.fanout n wide lt ∙ ap (λ (q : ℕ). level_lens geo.fanout n ++ lens_above q geo.fanout q) (sym (made_count geo n made old new was now lays))
 
-pub ready_above : (geo : RawGeometry) (n : ℕ) (made : List Branch) (old new : OpenLeb) (was now : ℕ → List ℕ) → 3 ≤ geo.fanout → geo.fanout < n → IsReady geo (lens_above n geo.fanout n) old was
-    → Lays geo (level_lens geo.fanout n) made old was new now → IsReady geo (lens_above (length made) geo.fanout (length made)) new now
+pub ready_above : (geo : RawGeometry) (n : ℕ) (made : List Branch) (old new : OpenLeb) (was now : ℕ → List ℕ) → 3 ≤ geo.fanout → geo.fanout < n → AreNodesReady geo (lens_above n geo.fanout n) old was
+    → Lays geo (level_lens geo.fanout n) made old was new now → AreNodesReady geo (lens_above (length made) geo.fanout (length made)) new now
 ready_above geo n made old new was now wide lt ready lays =
     let f = geo.fanout in
     let above = lens_above (length made) f (length made) in
@@ -103,6 +103,6 @@ above_within geo n made old new was now wide lt lays =
     omega (arith, a, b, first)
 
 -- what is taken once all are laid
-pub lays_taken : (geo : RawGeometry) (lens : List ℕ) (made : List Branch) (old new : OpenLeb) (was now : ℕ → List ℕ) → Lays geo lens made old was new now → taken_of new ≡ taken_after geo old lens
+pub lays_taken : (geo : RawGeometry) (lens : List ℕ) (made : List Branch) (old new : OpenLeb) (was now : ℕ → List ℕ) → Lays geo lens made old was new now → bytes_taken_of new ≡ taken_after geo old lens
 lays_taken geo lens made old new was now lays =
     ap (λ (l : List ℕ). new.used.items ++ l) (sym (packed_nil geo.leb_size (length new.bytes.items))) ∙ lays.after [] ∙ ap (taken_after geo old) (append-nil lens)

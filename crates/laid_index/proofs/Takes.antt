@@ -7,7 +7,7 @@ use Rattle.std.proofs.lemmas.List.Elements.{All-push, All-weaker, filter-append,
 use Rattle.std.specs.List.{AllByRecursion}
 use Rattle.media_sys.specs.declared.branch.Branch.{Branch}
 use Rattle.index_media.specs.PlacedRow.{bytes_taken, node_end}
-use Rattle.laid_main.specs.Filling.{Takes}
+use Rattle.laid_main.specs.Filling.{TakesOfLebs}
 
 -- the nodes in a LEB
 abbrev pub in_leb : ℕ → List Branch → List Branch
@@ -37,7 +37,7 @@ in_leb_none lnum first end (b ∷ bs) le h =
 
 -- a node is put behind the bytes of the open LEB
 pub takes_append : (first : ℕ) (used : List ℕ) (taken : ℕ) (before : List Branch) (b : Branch) → b.lnum ≡ first + length used
-    → Takes first (used ++ taken ∷ []) before → Takes first (used ++ (taken + node_end b.len) ∷ []) (before ++ b ∷ [])
+    → TakesOfLebs first (used ++ taken ∷ []) before → TakesOfLebs first (used ++ (taken + node_end b.len) ∷ []) (before ++ b ∷ [])
 takes_append first used taken before b at h =
     let old = length_push used taken in
     let new = length_push used (taken + node_end b.len) in
@@ -64,7 +64,7 @@ takes_append first used taken before b at h =
     }
 
 -- the next LEB is open, and took nothing
-pub takes_close : (first : ℕ) (used : List ℕ) (before : List Branch) → Takes first used before → Takes first (used ++ 0 ∷ []) before
+pub takes_close : (first : ℕ) (used : List ℕ) (before : List Branch) → TakesOfLebs first used before → TakesOfLebs first (used ++ 0 ∷ []) before
 takes_close first used before h =
     let new = length_push used 0 in
     let P : Branch → Type 0 = λ one. (first ≤ one.lnum) × (one.lnum < first + length used) in
@@ -80,7 +80,7 @@ takes_close first used before h =
     }
 
 -- nothing is taken yet
-pub takes_none : (first : ℕ) (taken : ℕ) → taken ≡ 0 → Takes first (taken ∷ []) []
+pub takes_none : (first : ℕ) (taken : ℕ) → taken ≡ 0 → TakesOfLebs first (taken ∷ []) []
 takes_none first taken e = record {
   within = All-from_recursion (λ (one : Branch). (first ≤ one.lnum) × (one.lnum < first + length (taken ∷ []))) [] tt;
   bytes = λ k few. let z : k ≡ 0 = omega (arith, few) in let P : ℕ → Type 0 = λ n. 0 ≡ get_or (taken ∷ []) n 0 in subst P (sym z) (sym e);
@@ -88,7 +88,7 @@ takes_none first taken e = record {
 
 -- the same nodes in another order
 pub takes_among : (first : ℕ) (used : List ℕ) (xs ys : List Branch) → ((k : ℕ) → bytes_taken (in_leb k ys) ≡ bytes_taken (in_leb k xs))
-    → ((P : Branch → Type 0) → AllByRecursion P xs → AllByRecursion P ys) → Takes first used xs → Takes first used ys
+    → ((P : Branch → Type 0) → AllByRecursion P xs → AllByRecursion P ys) → TakesOfLebs first used xs → TakesOfLebs first used ys
 takes_among first used xs ys same all h =
     let P : Branch → Type 0 = λ one. (first ≤ one.lnum) × (one.lnum < first + length used) in
     record { within = All-from_recursion P ys (all P (recursion_from_All P xs h.within)); bytes = λ k few. same (first + k) ∙ h.bytes k few }

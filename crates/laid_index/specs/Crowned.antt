@@ -5,22 +5,22 @@ use Rattle.media_sys.specs.declared.branch.Branch.{Branch}
 use Rattle.index_tree.specs.Shape.{contents as leaves_in}
 use Rattle.index_tree.specs.declared.leaf.Leaf.{Leaf}
 use Rattle.index_media.specs.PlacedRow.{PlacedRow, ended, node_at, all_nodes, branches_of, plain}
-use Rattle.laid_main.specs.Filling.{Takes}
-use Rattle.laid_index.specs.Opened.{GoesOn, IsOpen, taken_after, taken_of}
+use Rattle.laid_main.specs.Filling.{TakesOfLebs}
+use Rattle.laid_index.specs.Opened.{GoesOnInLeb, IsLebOpen, taken_after, bytes_taken_of}
 use Rattle.laid_index.specs.Rows.{IsGrown}
 use Rattle.laid_index.specs.declared.open_leb.OpenLeb.{OpenLeb}
 
 -- A row of so many levels over these leaves stands in all contents that go on, its nodes take what is taken, and took the numbers from one on.
 pub record IsRowLaid (geo : RawGeometry) (sqnum levels : ℕ) (leaves : List Leaf) (row : PlacedRow) (leb : OpenLeb) (holds : ℕ → List ℕ) : Type 0 where
-  pub grown : (contents : ℕ → List ℕ) → GoesOn leb holds contents → IsGrown contents geo.fanout levels row
-  pub takes : Takes leb.first (taken_of leb) (all_nodes row)
+  pub grown : (contents : ℕ → List ℕ) → GoesOnInLeb leb holds contents → IsGrown contents geo.fanout levels row
+  pub takes : TakesOfLebs leb.first (bytes_taken_of leb) (all_nodes row)
   pub number : leb.sqnum ≡ sqnum + length (all_nodes row)
   pub holds_leaves : leaves_in (plain row) ≡ leaves
 
 -- Above each row of these siblings that is laid, a root is laid, and nodes of these lengths were.
 pub record IsCrowned (geo : RawGeometry) (levels : ℕ) (siblings : List Branch) (lens : List ℕ) (old : OpenLeb) (was : ℕ → List ℕ) (root : Branch) (new : OpenLeb) (now : ℕ → List ℕ) : Type 0 where
-  pub is_open : IsOpen geo new now
+  pub is_open : IsLebOpen geo new now
   pub first : new.first ≡ old.first
-  pub after : taken_of new ≡ taken_after geo old lens
+  pub after : bytes_taken_of new ≡ taken_after geo old lens
   pub row : (sqnum : ℕ) (leaves : List Leaf) (row : PlacedRow) → branches_of row ≡ siblings → IsRowLaid geo sqnum levels leaves row old was
       → (high : ℕ) × ((children : PlacedRow) × IsRowLaid geo sqnum high leaves (node_at root children ended) new now)

@@ -6,7 +6,7 @@ use Rattle.index_tree.specs.Shape.{contents as leaves_in}
 use Rattle.index_tree.specs.declared.leaf.Leaf.{Leaf}
 use Rattle.index_media.specs.PlacedRow.{PlacedRow, all_nodes, branches_of, plain}
 use Rattle.index_media.specs.Stored.{IsStoredIndex}
-use Rattle.laid_main.specs.Filling.{AreFilled, Takes}
+use Rattle.laid_main.specs.Filling.{AreFilled, TakesOfLebs}
 use Rattle.laid_index.specs.Packing.{index_used}
 use Rattle.laid_index.specs.declared.laid_index.LaidIndex.{LaidIndex}
 
@@ -17,7 +17,7 @@ pub record IsLaidIndex (geo : RawGeometry) (contents : ℕ → List ℕ) (leaves
   pub index : IsStoredIndex contents geo.fanout made.root placed
   pub key : map (λ (branch : Branch). branch.key) (take 1 (branches_of index.children)) ≡ made.root.key ∷ []
   pub holds : leaves_in (plain placed) ≡ leaves
-  pub takes : Takes first made.used.items (all_nodes placed)
+  pub takes : TakesOfLebs first made.used.items (all_nodes placed)
   pub filled : AreFilled geo contents first made.used.items
   pub used : made.used.items ≡ index_used geo (length leaves)
   pub number : made.sqnum ≡ sqnum + length (all_nodes placed)

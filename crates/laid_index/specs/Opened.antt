@@ -8,7 +8,7 @@ use Rattle.media_sys.specs.Index.{Index}
 use Rattle.media_sys.specs.SystemNode.{IsSystemNode, index, written}
 use Rattle.media_sys.specs.declared.branch.Branch.{Branch}
 use Rattle.index_media.specs.PlacedRow.{node_end}
-use Rattle.laid_main.specs.Filling.{AreFilled, Takes}
+use Rattle.laid_main.specs.Filling.{AreFilled, TakesOfLebs}
 use Rattle.laid_index.specs.Packing.{len_over, packed}
 use Rattle.laid_index.specs.declared.open_leb.OpenLeb.{OpenLeb}
 
@@ -17,8 +17,8 @@ abbrev pub open_lnum : OpenLeb → ℕ
 open_lnum leb = leb.first + length leb.used.items
 
 -- the bytes taken of each LEB, the open one's last
-abbrev pub taken_of : OpenLeb → List ℕ
-taken_of leb = leb.used.items ++ length leb.bytes.items ∷ []
+abbrev pub bytes_taken_of : OpenLeb → List ℕ
+bytes_taken_of leb = leb.used.items ++ length leb.bytes.items ∷ []
 
 -- the bytes taken of each LEB once nodes of these lengths are laid too
 abbrev pub taken_after : RawGeometry → OpenLeb → List ℕ → List ℕ
@@ -29,12 +29,12 @@ abbrev pub node_text : ℕ → Index → List ℕ
 node_text sqnum said = written sqnum 0 (index said) ++ gap_of (node_end (len_over (length said.branches)) - len_over (length said.branches))
 
 -- contents in which LEBs are as they were closed, and the open one begins with the buffer's bytes
-pub record GoesOn (leb : OpenLeb) (holds contents : ℕ → List ℕ) : Type 0 where
+pub record GoesOnInLeb (leb : OpenLeb) (holds contents : ℕ → List ℕ) : Type 0 where
   pub closed : (k : ℕ) → k < open_lnum leb → contents k ≡ holds k
   pub front : take (length leb.bytes.items) (contents (open_lnum leb)) ≡ leb.bytes.items
 
 -- closed LEBs are filled, and the buffer has whole words that fit a LEB
-pub record IsOpen (geo : RawGeometry) (leb : OpenLeb) (holds : ℕ → List ℕ) : Type 0 where
+pub record IsLebOpen (geo : RawGeometry) (leb : OpenLeb) (holds : ℕ → List ℕ) : Type 0 where
   pub filled : AreFilled geo holds leb.first leb.used.items
   pub words : length leb.bytes.items % 8 ≡ 0
   pub fits : length leb.bytes.items ≤ geo.leb_size
@@ -50,17 +50,17 @@ pub record IsClosed (geo : RawGeometry) (old new : OpenLeb) (now : ℕ → List 
 
 -- There is room for a node of this length, and what is laid goes on to stand
 pub record MakesRoom (geo : RawGeometry) (len : ℕ) (old : OpenLeb) (was : ℕ → List ℕ) (new : OpenLeb) (now : ℕ → List ℕ) : Type 0 where
-  pub is_open : IsOpen geo new now
+  pub is_open : IsLebOpen geo new now
   pub first : new.first ≡ old.first
   pub number : new.sqnum ≡ old.sqnum
   pub fits : length new.bytes.items + len ≤ geo.leb_size
   pub lnum : open_lnum new < geo.leb_cnt
-  pub goes_on : (contents : ℕ → List ℕ) → GoesOn new now contents → GoesOn old was contents
-  pub takes : (before : List Branch) → Takes old.first (taken_of old) before → Takes new.first (taken_of new) before
+  pub goes_on : (contents : ℕ → List ℕ) → GoesOnInLeb new now contents → GoesOnInLeb old was contents
+  pub takes : (before : List Branch) → TakesOfLebs old.first (bytes_taken_of old) before → TakesOfLebs new.first (bytes_taken_of new) before
   pub after : (lens : List ℕ) → taken_after geo new (len ∷ lens) ≡ taken_after geo old (len ∷ lens)
 
 -- A node was put into the buffer
-pub record IsAppended (said : Index) (old new : OpenLeb) : Type 0 where
+pub record IsNodeAppended (said : Index) (old new : OpenLeb) : Type 0 where
   pub first : new.first ≡ old.first
   pub used : new.used.items ≡ old.used.items
   pub bytes : new.bytes.items ≡ old.bytes.items ++ node_text old.sqnum said
@@ -70,17 +70,17 @@ pub record IsAppended (said : Index) (old new : OpenLeb) : Type 0 where
   pub text : length (node_text old.sqnum said) ≡ node_end (len_over (length said.branches))
 
 -- nodes of these lengths can be laid: LEBs and numbers suffice
-pub record IsReady (geo : RawGeometry) (lens : List ℕ) (leb : OpenLeb) (holds : ℕ → List ℕ) : Type 0 where
-  pub is_open : IsOpen geo leb holds
+pub record AreNodesReady (geo : RawGeometry) (lens : List ℕ) (leb : OpenLeb) (holds : ℕ → List ℕ) : Type 0 where
+  pub is_open : IsLebOpen geo leb holds
   pub room : leb.first + length (taken_after geo leb lens) ≤ geo.leb_cnt
   pub number : leb.sqnum + length lens < 2 ^ 64
 
 -- From an open LEB to a later one: what is laid goes on to stand, and nodes were laid to which these branches lead. Some are of these lengths.
 pub record Lays (geo : RawGeometry) (lens : List ℕ) (branches : List Branch) (old : OpenLeb) (was : ℕ → List ℕ) (new : OpenLeb) (now : ℕ → List ℕ) : Type 0 where
-  pub is_open : IsOpen geo new now
+  pub is_open : IsLebOpen geo new now
   pub first : new.first ≡ old.first
-  pub goes_on : (contents : ℕ → List ℕ) → GoesOn new now contents → GoesOn old was contents
-  pub takes : (before : List Branch) → Takes old.first (taken_of old) before → Takes new.first (taken_of new) (before ++ branches)
+  pub goes_on : (contents : ℕ → List ℕ) → GoesOnInLeb new now contents → GoesOnInLeb old was contents
+  pub takes : (before : List Branch) → TakesOfLebs old.first (bytes_taken_of old) before → TakesOfLebs new.first (bytes_taken_of new) (before ++ branches)
   pub after : (lens' : List ℕ) → taken_after geo new lens' ≡ taken_after geo old (lens ++ lens')
   pub number : new.sqnum ≡ old.sqnum + length branches
   pub many : length branches ≡ length lens

@@ -12,7 +12,7 @@ ghost use Rattle.index_tree.specs.declared.leaf.Leaf.{Leaf as ALeaf};
 ghost use Rattle.index_media.specs.PlacedRow.{PlacedRow, branch_to, ended, node_at};
 ghost use Rattle.laid_index.specs.Answered.{IsLayingAnswered, AreOthersSame};
 ghost use Rattle.laid_index.specs.Indexed.{IsLaidIndex};
-ghost use Rattle.laid_index.specs.Opened.{GoesOn, IsReady, Lays, taken_after};
+ghost use Rattle.laid_index.specs.Opened.{GoesOnInLeb, AreNodesReady, Lays, taken_after};
 ghost use Rattle.laid_index.specs.Packing.{index_used, lens_above, level_lens};
 ghost use Rattle.laid_index.specs.Rows.{AreInOrder, AreOver, StandOver};
 ghost use Rattle.laid_index.specs.Crowned.{IsRowLaid, IsCrowned};
@@ -112,7 +112,7 @@ fn lay_levels<V: Volume>(
     requires geometry { IsGeometryOf (raw_of geometry.now) (V.state volume.old) }
     requires some { 0 < length siblings.now }
     requires order { AreInOrder siblings.now }
-    requires ready { IsReady (raw_of geometry.now) (lens_above (length siblings.now) geometry.now.fanout (length siblings.now)) leb.old (V.state volume.old).holds }
+    requires ready { AreNodesReady (raw_of geometry.now) (lens_above (length siblings.now) geometry.now.fanout (length siblings.now)) leb.old (V.state volume.old).holds }
     requires high { length siblings.now * 2 ^ level < 2 ^ 64 }
     ensures crowned { IfOk result (λ root. IsCrowned (raw_of geometry.now) level siblings.now (lens_above (length siblings.now) geometry.now.fanout (length siblings.now)) leb.old (V.state volume.old).holds root leb.new (V.state volume.new).holds) }
     ensures some { OnOk result (0 < length leb.new.bytes.items) }
@@ -136,10 +136,10 @@ fn lay_level<V: Volume>(
 ) -> Result<Vec<Branch>, AreaFault>
     requires geometry { IsGeometryOf (raw_of geometry.now) (V.state volume.old) }
     requires order { AreInOrder siblings.now }
-    requires ready { IsReady (raw_of geometry.now) (level_lens geometry.now.fanout (length siblings.now)) leb.old (V.state volume.old).holds }
+    requires ready { AreNodesReady (raw_of geometry.now) (level_lens geometry.now.fanout (length siblings.now)) leb.old (V.state volume.old).holds }
     ensures lays { IfOk result (λ made. Lays (raw_of geometry.now) (level_lens geometry.now.fanout (length siblings.now)) made.items leb.old (V.state volume.old).holds leb.new (V.state volume.new).holds) }
     ensures over { IfOk result (λ made. AreOver geometry.now.fanout siblings.now made.items []) }
-    ensures stand { IfOk result (λ made. (contents : ℕ → List ℕ) → GoesOn leb.new (V.state volume.new).holds contents → StandOver contents geometry.now.fanout level siblings.now made.items) }
+    ensures stand { IfOk result (λ made. (contents : ℕ → List ℕ) → GoesOnInLeb leb.new (V.state volume.new).holds contents → StandOver contents geometry.now.fanout level siblings.now made.items) }
     ensures answer { IsLayingAnswered leb.old.first (leb.old.first + length (taken_after (raw_of geometry.now) leb.old (level_lens geometry.now.fanout (length siblings.now)))) (V.state volume.old) (V.state volume.new) result }
 {
     let mut made = Vec::new(alloc);

@@ -11,7 +11,7 @@ ghost use Rattle.media_sys.specs.SystemNode.{IsSystemNode, index, written};
 ghost use Rattle.index_media.specs.PlacedRow.{node_end};
 ghost use Rattle.index_media.specs.Stored.{IsIndexNodeAt};
 ghost use Rattle.laid_index.specs.Answered.{IsLayingAnswered};
-ghost use Rattle.laid_index.specs.Opened.{GoesOn, IsAppended, IsClosed, IsOpen, IsReady, Lays, MakesRoom, node_text, open_lnum, taken_after};
+ghost use Rattle.laid_index.specs.Opened.{GoesOnInLeb, IsNodeAppended, IsClosed, IsLebOpen, AreNodesReady, Lays, MakesRoom, node_text, open_lnum, taken_after};
 ghost use Rattle.laid_index.specs.Packing.{len_over};
 ghost use Rattle.laid_index.specs.Rows.{HasFirstKey};
 
@@ -62,9 +62,9 @@ impl OpenLeb {
     ) -> Result<Branch, AreaFault>
         requires geometry { IsGeometryOf (raw_of geometry.now) (V.state volume.old) }
         requires node { IsIdxNode (record { level = level; branches = siblings.now }) }
-        requires ready { IsReady (raw_of geometry.now) (len_over (length siblings.now) ∷ []) self.old (V.state volume.old).holds }
+        requires ready { AreNodesReady (raw_of geometry.now) (len_over (length siblings.now) ∷ []) self.old (V.state volume.old).holds }
         ensures lays { IfOk result (λ branch. Lays (raw_of geometry.now) (len_over (length siblings.now) ∷ []) (branch ∷ []) self.old (V.state volume.old).holds self.new (V.state volume.new).holds) }
-        ensures stands { IfOk result (λ branch. (contents : ℕ → List ℕ) → GoesOn self.new (V.state volume.new).holds contents → IsIndexNodeAt contents branch (record { level = level; branches = siblings.now })) }
+        ensures stands { IfOk result (λ branch. (contents : ℕ → List ℕ) → GoesOnInLeb self.new (V.state volume.new).holds contents → IsIndexNodeAt contents branch (record { level = level; branches = siblings.now })) }
         ensures key { IfOk result (λ branch. HasFirstKey branch siblings.now) }
         ensures some { OnOk result (0 < length self.new.bytes.items) }
         ensures answer { IsLayingAnswered self.old.first (self.old.first + length (taken_after (raw_of geometry.now) self.old (len_over (length siblings.now) ∷ []))) (V.state volume.old) (V.state volume.new) result }
@@ -90,7 +90,7 @@ impl OpenLeb {
     ) -> Result<(), AreaFault>
         requires geometry { IsGeometryOf (raw_of geometry.now) (V.state volume.old) }
         requires most { len ≤ 5148 }
-        requires ready { IsReady (raw_of geometry.now) (len ∷ []) self.old (V.state volume.old).holds }
+        requires ready { AreNodesReady (raw_of geometry.now) (len ∷ []) self.old (V.state volume.old).holds }
         ensures makes { OnOk result (MakesRoom (raw_of geometry.now) len self.old (V.state volume.old).holds self.new (V.state volume.new).holds) }
         ensures answer { IsLayingAnswered self.old.first (self.old.first + length (taken_after (raw_of geometry.now) self.old (len ∷ []))) (V.state volume.old) (V.state volume.new) result }
     {
@@ -126,7 +126,7 @@ impl OpenLeb {
         requires node { IsIdxNode (record { level = level; branches = siblings.now }) }
         requires number { self.old.sqnum + 1 < 2 ^ 64 }
         requires fits { length self.old.bytes.items ≤ 2097152 }
-        ensures appended { OnOk result (IsAppended (record { level = level; branches = siblings.now }) self.old self.new) }
+        ensures appended { OnOk result (IsNodeAppended (record { level = level; branches = siblings.now }) self.old self.new) }
     {
         let node = IdxNode {
             level,

@@ -13,8 +13,8 @@ use Rattle.index_media.specs.PlacedRow.{bytes_taken}
 use Rattle.leb_scan.specs.Text.{is_blank}
 use Rattle.lpt_area.specs.Tree.{empty_leb}
 use Rattle.lpt_area.specs.Written.{AreProps, IsLprop, in_units}
-use Rattle.laid_main.specs.Filling.{AreFilled, Takes}
-use Rattle.laid_main.specs.Props.{AreTaken, laid_props, prop_behind}
+use Rattle.laid_main.specs.Filling.{AreFilled, TakesOfLebs}
+use Rattle.laid_main.specs.Props.{AreBytesTaken, laid_props, prop_behind}
 use Rattle.laid_main.proofs.Units.{units_fit, units_more, units_words, words_left}
 
 -- ---- which properties an index leads to
@@ -118,7 +118,7 @@ module _ (geo : RawGeometry) (g : IsGeometry geo) where
         room = omega (arith, a, b);
       }
 
-  each_behind : (kind : Bool) (used : List ℕ) (rest : List Lprop) → AreTaken geo used → All (IsLprop geo) rest → All (IsLprop geo) (map (λ bytes. prop_behind geo bytes kind) used ++ rest)
+  each_behind : (kind : Bool) (used : List ℕ) (rest : List Lprop) → AreBytesTaken geo used → All (IsLprop geo) rest → All (IsLprop geo) (map (λ bytes. prop_behind geo bytes kind) used ++ rest)
   each_behind kind [] rest taken others = others
   each_behind kind (x ∷ used) rest taken others =
       let P : ℕ → Type 0 = λ bytes. (0 < bytes) × (bytes % 8 ≡ 0) × (bytes ≤ geo.leb_size) in
@@ -130,7 +130,7 @@ module _ (geo : RawGeometry) (g : IsGeometry geo) where
   each_empty zero = All-nil (IsLprop geo)
   each_empty (suc n) = All-cons (IsLprop geo) (empty_leb geo) (replicate n (empty_leb geo)) (record { free = leb_size-mod geo g; dirty = refl; room = omega arith }) (each_empty n)
 
-  pub are_possible : (leaves index : List ℕ) → AreTaken geo leaves → AreTaken geo index → length leaves + length index ≤ main_lebs geo → AreProps geo (laid_props geo leaves index)
+  pub are_possible : (leaves index : List ℕ) → AreBytesTaken geo leaves → AreBytesTaken geo index → length leaves + length index ≤ main_lebs geo → AreProps geo (laid_props geo leaves index)
   are_possible leaves index taken also few =
       let n = main_lebs geo - (length leaves + length index) in
       let rest : List Lprop = replicate n (empty_leb geo) in
@@ -174,8 +174,8 @@ module _ (geo : RawGeometry) (g : IsGeometry geo) where
       let b = fits len low in
       omega (arith, free, dirty, a, b, same)
 
-  module _ (leaves index : List ℕ) (nodes below : List Branch) (taken : AreTaken geo leaves) (also : AreTaken geo index)
-      (takes : Takes (main_first geo) leaves below) (above : Takes (main_first geo + length leaves) index nodes) where
+  module _ (leaves index : List ℕ) (nodes below : List Branch) (taken : AreBytesTaken geo leaves) (also : AreBytesTaken geo index)
+      (takes : TakesOfLebs (main_first geo) leaves below) (above : TakesOfLebs (main_first geo + length leaves) index nodes) where
     abbrev pub here : ℕ → List Branch → ℕ
     here i branches = bytes_taken (filter (λ (branch : Branch). branch.lnum == main_first geo + i) branches)
 

@@ -7,7 +7,7 @@ use Rattle.leb_scan.specs.Text.{is_blank}
 use Rattle.lpt_area.specs.Written.{in_units}
 
 -- What these branches lead to stands in the LEBs from a first one on, and takes so many bytes of each, every node rounded up to 8.
-pub record Takes (first : ℕ) (used : List ℕ) (branches : List Branch) : Type 0 where
+pub record TakesOfLebs (first : ℕ) (used : List ℕ) (branches : List Branch) : Type 0 where
   pub within : All (λ (branch : Branch). (first ≤ branch.lnum) × (branch.lnum < first + length used)) branches
   pub bytes : (k : ℕ) → k < length used → bytes_taken (filter (λ (branch : Branch). branch.lnum == first + k) branches) ≡ get_or used k 0
 

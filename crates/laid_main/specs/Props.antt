@@ -17,5 +17,5 @@ laid_props geo leaves index =
     ++ (map (λ bytes. prop_behind geo bytes true) index ++ replicate (main_lebs geo - (length leaves + length index)) (empty_leb geo))
 
 -- bytes that can be taken of LEBs: some of each, whole words, at most the LEB
-abbrev pub AreTaken : RawGeometry → List ℕ → Type 0
-AreTaken geo used = All (λ bytes. (0 < bytes) × (bytes % 8 ≡ 0) × (bytes ≤ geo.leb_size)) used
+abbrev pub AreBytesTaken : RawGeometry → List ℕ → Type 0
+AreBytesTaken geo used = All (λ bytes. (0 < bytes) × (bytes % 8 ≡ 0) × (bytes ≤ geo.leb_size)) used

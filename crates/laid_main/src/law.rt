@@ -9,17 +9,17 @@ ghost use Rattle.media_sys.specs.declared.branch.Branch.{Branch};
 ghost use Rattle.index_media.specs.PlacedRow.{bytes_taken};
 ghost use Rattle.leb_scan.specs.Text.{is_blank};
 ghost use Rattle.lpt_area.specs.Written.{AreProps};
-ghost use Rattle.laid_main.specs.Filling.{AreFilled, Takes};
-ghost use Rattle.laid_main.specs.Props.{AreTaken, laid_props, prop_behind};
+ghost use Rattle.laid_main.specs.Filling.{AreFilled, TakesOfLebs};
+ghost use Rattle.laid_main.specs.Props.{AreBytesTaken, laid_props, prop_behind};
 
 /// The properties of main LEBs into which leaves and then an index were laid are possible ones. The free and dirty bytes of each LEB
 /// and those that were taken are all its bytes; behind its free bytes nothing is written, unless all are free. LEBs with leaves aren't marked as the index's, and
 /// those with index nodes are.
 pub fn laid_lebs_have_their_properties()
-    ensures possible { (geo : RawGeometry) (leaves index : List ℕ) → IsGeometry geo → AreTaken geo leaves → AreTaken geo index → length leaves + length index ≤ main_lebs geo
+    ensures possible { (geo : RawGeometry) (leaves index : List ℕ) → IsGeometry geo → AreBytesTaken geo leaves → AreBytesTaken geo index → length leaves + length index ≤ main_lebs geo
         → AreProps geo (laid_props geo leaves index) }
-    ensures sums { (geo : RawGeometry) (leaves index : List ℕ) (nodes below : List Branch) → IsGeometry geo → AreTaken geo leaves → AreTaken geo index
-        → Takes (main_first geo) leaves below → Takes (main_first geo + length leaves) index nodes → (i : ℕ) (prop : AnLprop) → slice_get (laid_props geo leaves index) i ≡ Some prop
+    ensures sums { (geo : RawGeometry) (leaves index : List ℕ) (nodes below : List Branch) → IsGeometry geo → AreBytesTaken geo leaves → AreBytesTaken geo index
+        → TakesOfLebs (main_first geo) leaves below → TakesOfLebs (main_first geo + length leaves) index nodes → (i : ℕ) (prop : AnLprop) → slice_get (laid_props geo leaves index) i ≡ Some prop
         → prop.free + prop.dirty + bytes_taken (filter (λ branch. branch.lnum == main_first geo + i) (nodes ++ below)) ≡ geo.leb_size }
     ensures ends { (geo : RawGeometry) (contents : ℕ → List ℕ) (leaves index : List ℕ) → IsGeometry geo → AreFilled geo contents (main_first geo) leaves
         → AreFilled geo contents (main_first geo + length leaves) index → (i : ℕ) (prop : AnLprop) → slice_get (laid_props geo leaves index) i ≡ Some prop

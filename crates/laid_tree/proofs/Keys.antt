@@ -27,10 +27,10 @@ use Rattle.fs_model.specs.Proper.{IsProper, has_kind}
 use Rattle.group_nodes.specs.FitLaws.{r5_small}
 use Rattle.leaf_map.specs.Kept.{Kept, Placed, kept_at, node_key, shown, shown_by}
 use Rattle.leaf_map.specs.LeafMap.{HasKeyOf, IsKeyed, IsLeafMap, are_apart, shows_same}
-use Rattle.image_maker.specs.Leaves.{leaves_of, live_leaves}
+use Rattle.image_maker.specs.Leaves.{leaf_nodes_of, live_leaves}
 use Rattle.sound_image.specs.Leaves.{IsPlacedIn}
-use Rattle.laid_image.specs.Laid.{leaf_of}
-use Rattle.tree_nodes.specs.Stored.{AreNodesOf}
+use Rattle.laid_image.specs.Laid.{leaf_of_placed}
+use Rattle.tree_nodes.specs.Stored.{AreNodesOfTree}
 
 -- ---- keys
 entry_is : (node : DentNode) (attribute : Bool) → (key_words (cond attribute (Xent node.dir (r5_of node.name)) (Dent node.dir (r5_of node.name)))).0 < 256 ^ 4
@@ -46,12 +46,12 @@ key_is (block node) bytes sqnum group h = let s = h.spelled.0 in (omega (arith, 
 key_is (entry node) bytes sqnum group h = entry_is node node.attribute h.spelled.0
 key_is (truncation node) bytes sqnum group h = let s = h.spelled.0 in omega (arith, s)
 
-keys_are : (contents : ℕ → List ℕ) (nodes : List Placed) → AllByRecursion (IsPlacedIn contents) nodes → AllByRecursion HasKey (map leaf_of nodes)
+keys_are : (contents : ℕ → List ℕ) (nodes : List Placed) → AllByRecursion (IsPlacedIn contents) nodes → AllByRecursion HasKey (map leaf_of_placed nodes)
 keys_are contents [] h = tt
 keys_are contents (x ∷ nodes) h = (key_is x.node _ x.sqnum x.group h.0.is, keys_are contents nodes h.1)
 
-pub leaves_have_keys : (contents : ℕ → List ℕ) (nodes : List Placed) → AllByRecursion (IsPlacedIn contents) nodes → HaveKeys (map leaf_of nodes)
-leaves_have_keys contents nodes h = All-from_recursion HasKey (map leaf_of nodes) (keys_are contents nodes h)
+pub leaves_have_keys : (contents : ℕ → List ℕ) (nodes : List Placed) → AllByRecursion (IsPlacedIn contents) nodes → HaveKeys (map leaf_of_placed nodes)
+leaves_have_keys contents nodes h = All-from_recursion HasKey (map leaf_of_placed nodes) (keys_are contents nodes h)
 
 -- ---- one key behind another
 words_follow : (a b : ℕ × ℕ) (last : Bool) → a.1 < 2 ^ 33 → b.1 < 2 ^ 33 → a.0 * 2 ^ 33 + a.1 ≤ b.0 * 2 ^ 33 + b.1 → (a.0 ≡ b.0 → a.1 ≡ b.1 → last ≡ true)
@@ -141,38 +141,38 @@ not_so false h = refl
 
 -- ---- all of them
 order_from : (contents : ℕ → List ℕ) (x : Placed) (nodes : List Placed) → AllByRecursion (IsPlacedIn contents) (x ∷ nodes) → AllByRecursion IsKeyed (map kept_at (x ∷ nodes)) → are_apart (map kept_at (x ∷ nodes)) ≡ true
-    → ordered_from (leaf_rank (leaf_of x)) (map (λ (k : Kept). k.leaf) (map kept_at nodes)) ≡ true → in_order (Some (leaf_of x).key) (map branch_to (map leaf_of nodes)) ≡ true
+    → ordered_from (leaf_rank (leaf_of_placed x)) (map (λ (k : Kept). k.leaf) (map kept_at nodes)) ≡ true → in_order (Some (leaf_of_placed x).key) (map branch_to (map leaf_of_placed nodes)) ≡ true
 order_from contents x [] stand keyed apart up = refl
 order_from contents x (y ∷ nodes) stand keyed apart up =
     let parts = and_parts (list_all (λ z. not (shows_same (shown x.node) (shown_by z))) (map kept_at (y ∷ nodes))) (are_apart (map kept_at (y ∷ nodes))) apart in
     let first = and_parts (not (shows_same (shown x.node) (shown y.node))) (list_all (λ z. not (shows_same (shown x.node) (shown_by z))) (map kept_at nodes)) parts.0 in
-    let low = and_parts (nat_le (leaf_rank (leaf_of x)) (leaf_rank (leaf_of y))) (ordered_from (leaf_rank (leaf_of y)) (map (λ (k : Kept). k.leaf) (map kept_at nodes))) up in
-    and_from (may_follow (Some (leaf_of x).key) (leaf_of y).key) (in_order (Some (leaf_of y).key) (map branch_to (map leaf_of nodes)))
-    (follows (leaf_of x) (leaf_of y) (shown x.node) (shown y.node) keyed.0 keyed.1.0 (not_so (shows_same (shown x.node) (shown y.node)) first.0) (leb-true (leaf_rank (leaf_of x)) (leaf_rank (leaf_of y)) low.0)
+    let low = and_parts (nat_le (leaf_rank (leaf_of_placed x)) (leaf_rank (leaf_of_placed y))) (ordered_from (leaf_rank (leaf_of_placed y)) (map (λ (k : Kept). k.leaf) (map kept_at nodes))) up in
+    and_from (may_follow (Some (leaf_of_placed x).key) (leaf_of_placed y).key) (in_order (Some (leaf_of_placed y).key) (map branch_to (map leaf_of_placed nodes)))
+    (follows (leaf_of_placed x) (leaf_of_placed y) (shown x.node) (shown y.node) keyed.0 keyed.1.0 (not_so (shows_same (shown x.node) (shown y.node)) first.0) (leb-true (leaf_rank (leaf_of_placed x)) (leaf_rank (leaf_of_placed y)) low.0)
     (key_is x.node _ x.sqnum x.group stand.0.is) (key_is y.node _ y.sqnum y.group stand.1.0.is))
     (order_from contents y nodes stand.1 keyed.1 parts.1 low.1)
 
-pub leaves_in_order : (contents : ℕ → List ℕ) (nodes : List Placed) → AllByRecursion (IsPlacedIn contents) nodes → IsLeafMap (map kept_at nodes) → in_order None (map branch_to (map leaf_of nodes)) ≡ true
+pub leaves_in_order : (contents : ℕ → List ℕ) (nodes : List Placed) → AllByRecursion (IsPlacedIn contents) nodes → IsLeafMap (map kept_at nodes) → in_order None (map branch_to (map leaf_of_placed nodes)) ≡ true
 leaves_in_order contents [] stand h = refl
 leaves_in_order contents (x ∷ nodes) stand h =
-    let low = and_parts (nat_le 0 (leaf_rank (leaf_of x))) (ordered_from (leaf_rank (leaf_of x)) (map (λ (k : Kept). k.leaf) (map kept_at nodes))) h.ordered in
+    let low = and_parts (nat_le 0 (leaf_rank (leaf_of_placed x))) (ordered_from (leaf_rank (leaf_of_placed x)) (map (λ (k : Kept). k.leaf) (map kept_at nodes))) h.ordered in
     order_from contents x nodes stand h.keyed h.apart low.1
 
-same_leaves : (nodes : List Placed) → map (λ (k : Kept). k.leaf) (map kept_at nodes) ≡ map leaf_of nodes
+same_leaves : (nodes : List Placed) → map (λ (k : Kept). k.leaf) (map kept_at nodes) ≡ map leaf_of_placed nodes
 same_leaves [] = refl
-same_leaves (x ∷ nodes) = ap (λ xs. leaf_of x ∷ xs) (same_leaves nodes)
+same_leaves (x ∷ nodes) = ap (λ xs. leaf_of_placed x ∷ xs) (same_leaves nodes)
 
-pub leaves_ascend : (nodes : List Placed) → IsLeafMap (map kept_at nodes) → ordered_from 0 (map leaf_of nodes) ≡ true
+pub leaves_ascend : (nodes : List Placed) → IsLeafMap (map kept_at nodes) → ordered_from 0 (map leaf_of_placed nodes) ≡ true
 leaves_ascend nodes h = ap (ordered_from 0) (sym (same_leaves nodes)) ∙ h.ordered
 
 -- there is a root
-pub some_nodes : (tree : Tree) (nodes : List Placed) → IsProper tree → AreNodesOf tree nodes → 0 < length nodes
+pub some_nodes : (tree : Tree) (nodes : List Placed) → IsProper tree → AreNodesOfTree tree nodes → 0 < length nodes
 some_nodes tree nodes proper are =
     let same = length-map nodes (λ (x : Placed). x.node) in
     let live : length (map (λ (x : Placed). x.node) nodes) ≡ length (live_leaves tree) = ap length are in
     let some = by tree.inodes refl in
     omega (arith, same, live, some)
   where
-    by : (inodes : Inodes) → tree.inodes ≡ inodes → 0 < length (flat_map (leaves_of tree) inodes)
+    by : (inodes : Inodes) → tree.inodes ≡ inodes → 0 < length (flat_map (leaf_nodes_of tree) inodes)
     by [] none = absurd (false≢true (ap (λ xs. has_kind (record tree { inodes = xs }) 1 Dir) (sym none) ∙ proper.root))
     by (e ∷ inodes) is = omega arith

@@ -18,8 +18,8 @@ use Rattle.image_maker.specs.Leaves.{live_leaves}
 use Rattle.image_maker.specs.Places.{AreLaid, IsWrittenLeaf, numbered_text, placed_rows, row_bytes}
 use Rattle.image_maker.specs.declared.laid_leaves.LaidLeaves.{LaidLeaves}
 use Rattle.sound_image.specs.Leaves.{IsPlacedIn}
-use Rattle.laid_image.specs.Laid.{leaf_of}
-use Rattle.laid_main.specs.Filling.{AreFilled, Takes}
+use Rattle.laid_image.specs.Laid.{leaf_of_placed}
+use Rattle.laid_main.specs.Filling.{AreFilled, TakesOfLebs}
 use Rattle.laid_tree.specs.Leaves.{AreLeavesLaid}
 use Rattle.laid_tree.proofs.Rows.{rows_fill, rows_order, rows_take}
 use Rattle.laid_tree.proofs.Stands.{nodes_are, rows_stand}
@@ -42,7 +42,7 @@ laid_nodes_of geo tree contents laid some h =
       are = nodes_are first h.rows (live_leaves tree) h.all;
       stand = rows_stand geo contents first h.rows (λ k l. h.held.main k (omega (arith, l, rows))) (subst (AllByRecursion IsWrittenLeaf) (sym h.all) h.nodes);
       order = rows_order first first 0 h.rows (inr (refl, omega arith));
-      takes = subst (λ u. Takes first u (map branch_to (map leaf_of (placed_rows first h.rows)))) used (rows_take first h.rows);
+      takes = subst (λ u. TakesOfLebs first u (map branch_to (map leaf_of_placed (placed_rows first h.rows)))) used (rows_take first h.rows);
       filled = subst (λ u. AreFilled geo contents first u) used (rows_fill geo contents first h.rows some h.each (λ k l. h.held.main k (omega (arith, l, rows))));
     }
 
@@ -73,16 +73,16 @@ still_stands old new x same h =
     record { room = omega (arith, room, long); is = subst P (sym same) h.is }
 
 all_stand : (old new : ℕ → List ℕ) (first count : ℕ) (nodes : List Placed) → ((k : ℕ) → k < count → new (first + k) ≡ old (first + k))
-    → All (λ (branch : Branch). (first ≤ branch.lnum) × (branch.lnum < first + count)) (map branch_to (map leaf_of nodes)) → AllByRecursion (IsPlacedIn old) nodes → AllByRecursion (IsPlacedIn new) nodes
+    → All (λ (branch : Branch). (first ≤ branch.lnum) × (branch.lnum < first + count)) (map branch_to (map leaf_of_placed nodes)) → AllByRecursion (IsPlacedIn old) nodes → AllByRecursion (IsPlacedIn new) nodes
 all_stand old new first count [] same within h = tt
 all_stand old new first count (x ∷ nodes) same within h =
     let P : Branch → Type 0 = λ branch. (first ≤ branch.lnum) × (branch.lnum < first + count) in
-    let here : P (branch_to (leaf_of x)) = All-head P (branch_to (leaf_of x)) (map branch_to (map leaf_of nodes)) within in
+    let here : P (branch_to (leaf_of_placed x)) = All-head P (branch_to (leaf_of_placed x)) (map branch_to (map leaf_of_placed nodes)) within in
     let low = here.0 in
     let high = here.1 in
     let at : first + (x.lnum - first) ≡ x.lnum = omega (arith, low) in
     let stays : new x.lnum ≡ old x.lnum = subst (λ (n : ℕ). new n ≡ old n) at (same (x.lnum - first) (omega (arith, low, high))) in
-    (still_stands old new x stays h.0, all_stand old new first count nodes same (All-tail P (branch_to (leaf_of x)) (map branch_to (map leaf_of nodes)) within) h.1)
+    (still_stands old new x stays h.0, all_stand old new first count nodes same (All-tail P (branch_to (leaf_of_placed x)) (map branch_to (map leaf_of_placed nodes)) within) h.1)
 
 pub stay_laid : (geo : RawGeometry) (old new : ℕ → List ℕ) (tree : Tree) (nodes : List Placed) (used : List ℕ) → ((k : ℕ) → k < length used → new (main_first geo + k) ≡ old (main_first geo + k))
     → AreLeavesLaid geo old tree nodes used → AreLeavesLaid geo new tree nodes used

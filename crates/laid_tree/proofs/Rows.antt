@@ -17,14 +17,14 @@ use Rattle.ubifs_base.specs.Node.{node_bytes}
 use Rattle.ubifs_base.specs.declared.raw_geometry.RawGeometry.{RawGeometry}
 use Rattle.media_leaf.specs.LeafNode.{LeafNode, inode, block, entry, truncation}
 use Rattle.media_sys.specs.declared.branch.Branch.{Branch}
-use Rattle.group_nodes.specs.Texts.{leaf_bytes, leaf_len}
+use Rattle.group_nodes.specs.Texts.{padded_leaf_bytes, leaf_len}
 use Rattle.group_nodes.specs.TextLaws.{length-leaf_text}
 use Rattle.index_media.specs.PlacedRow.{branch_to, bytes_taken, node_end}
 use Rattle.leaf_map.specs.Kept.{Placed}
 use Rattle.leb_scan.specs.Text.{is_blank}
 use Rattle.lpt_area.specs.Written.{in_units}
-use Rattle.laid_image.specs.Laid.{leaf_of}
-use Rattle.laid_main.specs.Filling.{AreFilled, Takes}
+use Rattle.laid_image.specs.Laid.{leaf_of_placed}
+use Rattle.laid_main.specs.Filling.{AreFilled, TakesOfLebs}
 use Rattle.image_maker.specs.Image.{leb_text, round_up, to_unit}
 use Rattle.image_maker.specs.Places.{FitsLeb, numbered_text, placed_leaf, placed_row, placed_rows, row_bytes}
 use Rattle.laid_tree.specs.Standing.{StandInOrder}
@@ -40,7 +40,7 @@ row_order : (lnum offs l o : ℕ) (row : List (ℕ × LeafNode)) (rest : List Pl
     → StandInOrder l o (placed_row lnum offs row ++ rest)
 row_order lnum offs l o [] rest even before later = later l o (elim before [ inl a ↦ omega (arith, a) | inr b ↦ let same = b.0 in omega (arith, same) ])
 row_order lnum offs l o (n ∷ row) rest even before later =
-    (some_bytes n.1, before, row_order lnum (offs + leaf_bytes n.1) lnum (node_end (offs + leaf_len n.1)) row rest (omega (arith, even)) (inr (refl, omega (arith, even))) later)
+    (some_bytes n.1, before, row_order lnum (offs + padded_leaf_bytes n.1) lnum (node_end (offs + leaf_len n.1)) row rest (omega (arith, even)) (inr (refl, omega (arith, even))) later)
 
 pub rows_order : (lnum l o : ℕ) (rows : List (List (ℕ × LeafNode))) → (l < lnum) ⊎ ((l ≡ lnum) × (o ≤ 0)) → StandInOrder l o (placed_rows lnum rows)
 rows_order lnum l o [] before = tt
@@ -51,11 +51,11 @@ abbrev IsWithin : ℕ → ℕ → Branch → Type 0
 IsWithin first past branch = (first ≤ branch.lnum) × (branch.lnum < past)
 
 abbrev branches : List Placed → List Branch
-branches nodes = map branch_to (map leaf_of nodes)
+branches nodes = map branch_to (map leaf_of_placed nodes)
 
 row_within : (first past lnum offs : ℕ) (row : List (ℕ × LeafNode)) (rest : List Placed) → first ≤ lnum → lnum < past → AllByRecursion (IsWithin first past) (branches rest) → AllByRecursion (IsWithin first past) (branches (placed_row lnum offs row ++ rest))
 row_within first past lnum offs [] rest low high more = more
-row_within first past lnum offs (n ∷ row) rest low high more = ((low, high), row_within first past lnum (offs + leaf_bytes n.1) row rest low high more)
+row_within first past lnum offs (n ∷ row) rest low high more = ((low, high), row_within first past lnum (offs + padded_leaf_bytes n.1) row rest low high more)
 
 rows_within : (first past lnum : ℕ) (rows : List (List (ℕ × LeafNode))) → first ≤ lnum → lnum + length rows ≤ past → AllByRecursion (IsWithin first past) (branches (placed_rows lnum rows))
 rows_within first past lnum [] low high = tt
@@ -77,26 +77,26 @@ earlier_leb a b l = grind (arith, nat_tests)
 -- a row takes its bytes of its own LEB
 row_taken : (lnum offs : ℕ) (row : List (ℕ × LeafNode)) (rest : List Placed) → taken lnum (placed_row lnum offs row ++ rest) ≡ row_bytes row + taken lnum rest
 row_taken lnum offs [] rest = let none : taken lnum rest ≡ 0 + taken lnum rest = omega arith in none
-row_taken lnum offs (n ∷ row) rest = by (row_taken lnum (offs + leaf_bytes n.1) row rest) (lnum == lnum) (same_leb lnum)
+row_taken lnum offs (n ∷ row) rest = by (row_taken lnum (offs + padded_leaf_bytes n.1) row rest) (lnum == lnum) (same_leb lnum)
   where
     more : List Placed
-    more = placed_row lnum (offs + leaf_bytes n.1) row ++ rest
+    more = placed_row lnum (offs + padded_leaf_bytes n.1) row ++ rest
 
-    by : taken lnum more ≡ row_bytes row + taken lnum rest → (b : Bool) → b ≡ true → bytes_taken (cond b (branch_to (leaf_of (placed_leaf lnum offs n)) ∷ filter (λ (branch : Branch). branch.lnum == lnum) (branches more)) (filter (λ (branch : Branch). branch.lnum == lnum) (branches more))) ≡ row_bytes (n ∷ row) + taken lnum rest
+    by : taken lnum more ≡ row_bytes row + taken lnum rest → (b : Bool) → b ≡ true → bytes_taken (cond b (branch_to (leaf_of_placed (placed_leaf lnum offs n)) ∷ filter (λ (branch : Branch). branch.lnum == lnum) (branches more)) (filter (λ (branch : Branch). branch.lnum == lnum) (branches more))) ≡ row_bytes (n ∷ row) + taken lnum rest
     by here true e =
-        let sum = sum_by-cons (λ (n : ℕ × LeafNode). leaf_bytes n.1) n row in
+        let sum = sum_by-cons (λ (n : ℕ × LeafNode). padded_leaf_bytes n.1) n row in
         omega (arith, here, sum)
     by here false e = absurd cc
 
 -- and nothing of another
 row_other : (lnum offs m : ℕ) (row : List (ℕ × LeafNode)) (rest : List Placed) → (lnum == m) ≡ false → taken m (placed_row lnum offs row ++ rest) ≡ taken m rest
 row_other lnum offs m [] rest h = refl
-row_other lnum offs m (n ∷ row) rest h = by (row_other lnum (offs + leaf_bytes n.1) m row rest h) (lnum == m) h
+row_other lnum offs m (n ∷ row) rest h = by (row_other lnum (offs + padded_leaf_bytes n.1) m row rest h) (lnum == m) h
   where
     more : List Placed
-    more = placed_row lnum (offs + leaf_bytes n.1) row ++ rest
+    more = placed_row lnum (offs + padded_leaf_bytes n.1) row ++ rest
 
-    by : taken m more ≡ taken m rest → (b : Bool) → b ≡ false → bytes_taken (cond b (branch_to (leaf_of (placed_leaf lnum offs n)) ∷ filter (λ (branch : Branch). branch.lnum == m) (branches more)) (filter (λ (branch : Branch). branch.lnum == m) (branches more))) ≡ taken m rest
+    by : taken m more ≡ taken m rest → (b : Bool) → b ≡ false → bytes_taken (cond b (branch_to (leaf_of_placed (placed_leaf lnum offs n)) ∷ filter (λ (branch : Branch). branch.lnum == m) (branches more)) (filter (λ (branch : Branch). branch.lnum == m) (branches more))) ≡ taken m rest
     by later true e = absurd cc
     by later false e = later
 
@@ -117,7 +117,7 @@ rows_taken lnum (suc k) (row ∷ rows) l =
     ∙ row_other lnum 0 (suc lnum + k) row (placed_rows (suc lnum) rows) (earlier_leb lnum (suc lnum + k) (omega arith))
     ∙ rows_taken (suc lnum) k rows (omega (arith, l))
 
-pub rows_take : (lnum : ℕ) (rows : List (List (ℕ × LeafNode))) → Takes lnum (map row_bytes rows) (branches (placed_rows lnum rows))
+pub rows_take : (lnum : ℕ) (rows : List (List (ℕ × LeafNode))) → TakesOfLebs lnum (map row_bytes rows) (branches (placed_rows lnum rows))
 rows_take lnum rows =
     let same = length-map rows row_bytes in
     record {
@@ -130,7 +130,7 @@ even_row : (row : List (ℕ × LeafNode)) → row_bytes row % 8 ≡ 0
 even_row [] = refl
 even_row (n ∷ row) =
     let more = even_row row in
-    let sum = sum_by-cons (λ (n : ℕ × LeafNode). leaf_bytes n.1) n row in
+    let sum = sum_by-cons (λ (n : ℕ × LeafNode). padded_leaf_bytes n.1) n row in
     omega (arith, more, sum)
 
 all_filled : (raw : RawGeometry) (rows : List (List (ℕ × LeafNode))) → AllByRecursion (FitsLeb raw) rows → AllByRecursion (λ (bytes : ℕ). (0 < bytes) × (bytes % 8 ≡ 0) × (bytes ≤ raw.leb_size)) (map row_bytes rows)
@@ -163,7 +163,7 @@ length_texts [] = refl
 length_texts (n ∷ row) =
     let here = length-leaf_text n.0 0 n.1 in
     let more = length_texts row in
-    let sum = sum_by-cons (λ (n : ℕ × LeafNode). leaf_bytes n.1) n row in
+    let sum = sum_by-cons (λ (n : ℕ × LeafNode). padded_leaf_bytes n.1) n row in
     let both = length-append (numbered_text n) (concat (map numbered_text row)) in
     omega (arith, here, more, sum, both)
 

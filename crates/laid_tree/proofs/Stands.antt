@@ -7,7 +7,7 @@ use Rattle.ubifs_base.specs.Gap.{gap_of}
 use Rattle.ubifs_base.specs.declared.raw_geometry.RawGeometry.{RawGeometry}
 use Rattle.media_leaf.specs.LeafNode.{LeafNode, IsLeafNode, written}
 use Rattle.fs_model.specs.Cover.{round_8}
-use Rattle.group_nodes.specs.Texts.{leaf_bytes, leaf_len, leaf_text}
+use Rattle.group_nodes.specs.Texts.{padded_leaf_bytes, leaf_len, leaf_text}
 use Rattle.group_nodes.specs.TextLaws.{length-leaf_text, length-written}
 use Rattle.leaf_map.specs.Kept.{Placed}
 use Rattle.sound_image.specs.Leaves.{IsPlacedIn}
@@ -40,7 +40,7 @@ row_stands contents lnum (n ∷ row) front back here is =
     let rest = concat (map numbered_text row) in
     let first : contents lnum ≡ front ++ (text ++ (rest ++ back)) = here ∙ ap (λ x. front ++ x) (append_assoc text rest back) in
     let next : contents lnum ≡ (front ++ text) ++ (rest ++ back) = first ∙ sym (append_assoc front text (rest ++ back)) in
-    let place : length (front ++ text) ≡ length front + leaf_bytes n.1 = let e = length-append front text in let l = length-leaf_text n.0 0 n.1 in omega (arith, e, l) in
+    let place : length (front ++ text) ≡ length front + padded_leaf_bytes n.1 = let e = length-append front text in let l = length-leaf_text n.0 0 n.1 in omega (arith, e, l) in
     (one_stands contents lnum n front (rest ++ back) first is.0, subst (λ (k : ℕ). AllByRecursion (IsPlacedIn contents) (placed_row lnum k row)) place (row_stands contents lnum row (front ++ text) back next is.1))
 
 -- ---- rows
@@ -76,7 +76,7 @@ rows_stand raw contents lnum (row ∷ rows) h is =
 -- ---- their nodes are the leaves
 row_nodes : (lnum offs : ℕ) (row : List (ℕ × LeafNode)) → map (λ (x : Placed). x.node) (placed_row lnum offs row) ≡ map (λ (n : ℕ × LeafNode). n.1) row
 row_nodes lnum offs [] = refl
-row_nodes lnum offs (n ∷ row) = ap (λ xs. n.1 ∷ xs) (row_nodes lnum (offs + leaf_bytes n.1) row)
+row_nodes lnum offs (n ∷ row) = ap (λ xs. n.1 ∷ xs) (row_nodes lnum (offs + padded_leaf_bytes n.1) row)
 
 map_both : {X Y : Type 0} (f : X → Y) (xs ys : List X) → map f (xs ++ ys) ≡ map f xs ++ map f ys
 map_both f [] ys = refl

@@ -11,8 +11,8 @@ ghost use Rattle.fs_model.specs.Files.{Tree};
 ghost use Rattle.fs_model.specs.Orphan.{nameless};
 ghost use Rattle.fs_model.specs.Proper.{IsProper};
 ghost use Rattle.leaf_map.specs.Kept.{Placed, kept_at};
-ghost use Rattle.laid_image.specs.Laid.{IsLaidNode, ShowTree, leaf_of, tree_of_nodes};
-ghost use Rattle.tree_nodes.specs.Stored.{AreNodesOf, stored_tree};
+ghost use Rattle.laid_image.specs.Laid.{IsLaidNode, ShowTree, leaf_of_placed, tree_of_nodes};
+ghost use Rattle.tree_nodes.specs.Stored.{AreNodesOfTree, stored_tree};
 ghost use Rattle.laid_tree.specs.Standing.{StandInOrder, StandsUnmarked, is_plain};
 
 use tree_nodes::live_nodes_show_their_tree;
@@ -20,11 +20,11 @@ use tree_nodes::live_nodes_show_their_tree;
 /// The live nodes of a proper tree show that tree under a master that says its highest inode number. If no inode has lost its last
 /// name, the tree hangs together. The nodes are laid if each stands whole in a main LEB and no inode is an attribute's.
 pub fn live_nodes_are_laid_as_their_tree()
-    ensures tree { (tree : Tree) (master : AMaster) (nodes : List Placed) → IsProper tree → AreNodesOf tree nodes → master.highest_inum ≡ tree.highest
+    ensures tree { (tree : Tree) (master : AMaster) (nodes : List Placed) → IsProper tree → AreNodesOfTree tree nodes → master.highest_inum ≡ tree.highest
         → tree_of_nodes master nodes ≡ stored_tree tree }
-    ensures shows { (tree : Tree) (master : AMaster) (nodes : List Placed) → IsProper tree → AreNodesOf tree nodes → master.highest_inum ≡ tree.highest → nameless tree ≡ []
+    ensures shows { (tree : Tree) (master : AMaster) (nodes : List Placed) → IsProper tree → AreNodesOfTree tree nodes → master.highest_inum ≡ tree.highest → nameless tree ≡ []
         → ShowTree (map kept_at nodes) (tree_of_nodes master nodes) }
-    ensures laid { (contents : ℕ → List ℕ) (geo : RawGeometry) (props : List AnLprop) (tree : Tree) (nodes : List Placed) → IsProper tree → AreNodesOf tree nodes
+    ensures laid { (contents : ℕ → List ℕ) (geo : RawGeometry) (props : List AnLprop) (tree : Tree) (nodes : List Placed) → IsProper tree → AreNodesOfTree tree nodes
         → IsTrue (list_all is_plain tree.inodes) → AllByRecursion (StandsUnmarked contents geo props) nodes → AllByRecursion (IsLaidNode contents geo props) nodes }
 {
     live_nodes_show_their_tree();
@@ -32,6 +32,6 @@ pub fn live_nodes_are_laid_as_their_tree()
 
 /// Nodes that stand in order don't overlap, and no two of their leaves are one.
 pub fn nodes_in_order_are_apart()
-    ensures disjoint { (lnum offs : ℕ) (nodes : List Placed) → StandInOrder lnum offs nodes → IsTrue (are_disjoint (map branch_to (map leaf_of nodes))) }
-    ensures distinct { (lnum offs : ℕ) (nodes : List Placed) → StandInOrder lnum offs nodes → AreDistinct (map leaf_of nodes) }
+    ensures disjoint { (lnum offs : ℕ) (nodes : List Placed) → StandInOrder lnum offs nodes → IsTrue (are_disjoint (map branch_to (map leaf_of_placed nodes))) }
+    ensures distinct { (lnum offs : ℕ) (nodes : List Placed) → StandInOrder lnum offs nodes → AreDistinct (map leaf_of_placed nodes) }
 {}

@@ -15,8 +15,8 @@ ghost use Rattle.leaf_map.specs.Kept.{Placed};
 ghost use Rattle.image_maker.specs.Leaves.{live_leaves};
 ghost use Rattle.image_maker.specs.Places.{AreLaid};
 ghost use Rattle.image_maker.specs.declared.laid_leaves.LaidLeaves.{LaidLeaves as ALaidLeaves};
-ghost use Rattle.laid_image.specs.Laid.{leaf_of};
-ghost use Rattle.tree_nodes.specs.Stored.{AreNodesOf};
+ghost use Rattle.laid_image.specs.Laid.{leaf_of_placed};
+ghost use Rattle.tree_nodes.specs.Stored.{AreNodesOfTree};
 ghost use Rattle.laid_tree.specs.Leaves.{AreLeavesLaid};
 
 use tree_nodes::live_nodes_show_their_tree;
@@ -25,7 +25,7 @@ use tree_nodes::live_nodes_show_their_tree;
 /// they take of each LEB, and the number behind theirs. Every other LEB is unwritten, of which one is left at least. Where these LEBs stay, the nodes do.
 pub fn laid_leaves_stand()
     ensures stand { (geo : RawGeometry) (tree : Tree) (contents : ℕ → List ℕ) (laid : ALaidLeaves) → IsGeometry geo → AreLaid geo (live_leaves tree) contents laid
-        → (nodes : List Placed) × AreLeavesLaid geo contents tree nodes laid.used.items × (laid.leaves.items ≡ map leaf_of nodes) × (laid.sqnum ≡ length nodes + 1) }
+        → (nodes : List Placed) × AreLeavesLaid geo contents tree nodes laid.used.items × (laid.leaves.items ≡ map leaf_of_placed nodes) × (laid.sqnum ≡ length nodes + 1) }
     ensures unwritten { (geo : RawGeometry) (tree : Tree) (contents : ℕ → List ℕ) (laid : ALaidLeaves) → AreLaid geo (live_leaves tree) contents laid
         → (n : ℕ) → n < geo.leb_cnt → (n < main_first geo) ⊎ (main_first geo + length laid.used.items ≤ n) → contents n ≡ filled geo.leb_size [] }
     ensures room { (geo : RawGeometry) (tree : Tree) (contents : ℕ → List ℕ) (laid : ALaidLeaves) → AreLaid geo (live_leaves tree) contents laid
@@ -36,11 +36,11 @@ pub fn laid_leaves_stand()
 
 /// Each leaf of nodes that were laid has a key. Those of a proper tree are some, no key is lower than the one before it, and only entries may have the same.
 pub fn laid_leaves_are_in_order()
-    ensures keys { (geo : RawGeometry) (contents : ℕ → List ℕ) (tree : Tree) (nodes : List Placed) (used : List ℕ) → AreLeavesLaid geo contents tree nodes used → HaveKeys (map leaf_of nodes) }
+    ensures keys { (geo : RawGeometry) (contents : ℕ → List ℕ) (tree : Tree) (nodes : List Placed) (used : List ℕ) → AreLeavesLaid geo contents tree nodes used → HaveKeys (map leaf_of_placed nodes) }
     ensures order { (geo : RawGeometry) (contents : ℕ → List ℕ) (tree : Tree) (nodes : List Placed) (used : List ℕ) → IsProper tree → AreLeavesLaid geo contents tree nodes used
-        → IsTrue (in_order None (map branch_to (map leaf_of nodes))) }
-    ensures ordered { (tree : Tree) (nodes : List Placed) → IsProper tree → AreNodesOf tree nodes → IsTrue (ordered_from 0 (map leaf_of nodes)) }
-    ensures some { (tree : Tree) (nodes : List Placed) → IsProper tree → AreNodesOf tree nodes → 0 < length nodes }
+        → IsTrue (in_order None (map branch_to (map leaf_of_placed nodes))) }
+    ensures ordered { (tree : Tree) (nodes : List Placed) → IsProper tree → AreNodesOfTree tree nodes → IsTrue (ordered_from 0 (map leaf_of_placed nodes)) }
+    ensures some { (tree : Tree) (nodes : List Placed) → IsProper tree → AreNodesOfTree tree nodes → 0 < length nodes }
 {
     live_nodes_show_their_tree();
 }

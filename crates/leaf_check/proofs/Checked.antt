@@ -22,7 +22,7 @@ use Rattle.sound_image.specs.WrongLaws.{one_of_none, back_of_two, front_of_two, 
 use Rattle.sound_image.specs.declared.breach.Breach.{Breach}
 use Rattle.sound_image.specs.declared.rule.Rule.TheVariants as rules
 use Rattle.image_check.specs.Told.{IsBreachOf}
-use Rattle.image_check.specs.FirstLaws.{not_before}
+use Rattle.image_check.specs.FirstLaws.{not_before_place}
 use Rattle.leaf_check.specs.Overlaps.{IsOverlapped, StandsBefore, is_clear_of, overlaps, place_rank}
 use Rattle.leaf_check.specs.Standings.{IsFirstPlaced, IsPlacedWrong}
 use Rattle.leaf_check.specs.Sweep.{IsBadAmong, IsRightAmong, IsSwept, IsUpTo}
@@ -206,12 +206,12 @@ module _ (contents : ℕ → List ℕ) (geo : RawGeometry) (props : List Lprop) 
   far_before other at z y l o stands low = elim (cases_lt z.lnum at.lnum) [
     | inl less ↦ absurd (low (inl less))
     | inr high ↦ elim stands [
-      | inl less ↦ not_before other at (omega (arith, l, less, high)) (λ e. absurd (omega (arith, e, l, less, high))) (λ e f. absurd (omega (arith, e, l, less, high)))
+      | inl less ↦ not_before_place other at (omega (arith, l, less, high)) (λ e. absurd (omega (arith, e, l, less, high))) (λ e f. absurd (omega (arith, e, l, less, high)))
       | inr (same, less) ↦ elim (cases_lt at.lnum z.lnum) [
-        | inl more ↦ not_before other at (omega (arith, l, same, more)) (λ e. absurd (omega (arith, e, l, same, more))) (λ e f. absurd (omega (arith, e, l, same, more)))
+        | inl more ↦ not_before_place other at (omega (arith, l, same, more)) (λ e. absurd (omega (arith, e, l, same, more))) (λ e f. absurd (omega (arith, e, l, same, more)))
         | inr under ↦ elim (cases_lt z.offs at.offs) [
           | inl before ↦ absurd (low (inr (omega (arith, high, under), before)))
-          | inr behind ↦ not_before other at (omega (arith, l, same, high)) (λ e. omega (arith, o, less, behind)) (λ e f. absurd (omega (arith, f, o, less, behind)))
+          | inr behind ↦ not_before_place other at (omega (arith, l, same, high)) (λ e. omega (arith, o, less, behind)) (λ e f. absurd (omega (arith, f, o, less, behind)))
         ]
       ]
     ]

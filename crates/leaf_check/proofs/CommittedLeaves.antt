@@ -16,7 +16,7 @@ use Rattle.leb_scan.specs.Text.{leaf_type}
 use Rattle.index_tree.specs.declared.leaf.Leaf.{Leaf}
 use Rattle.leaf_map.specs.Kept.{Placed}
 use Rattle.leaf_map.specs.Parts.{Committed}
-use Rattle.journal_scan.specs.Content.{content_of}
+use Rattle.journal_scan.specs.Content.{node_content_of}
 use Rattle.journal_scan.specs.declared.journal_node.JournalNode.{JournalNode}
 use Rattle.journal_scan.specs.declared.node_content.NodeContent.{NodeContent}
 use Rattle.log_replay.specs.Replay.{told_committed}
@@ -56,7 +56,7 @@ none_told contents x none = record {
 
 -- the node that was found is placed there
 pub some_told : (contents : ℕ → List ℕ) (x : Leaf) (bytes : List ℕ) (found : Found) (node : LeafNode) (content : NodeContent) → HasBytes contents x bytes → (h : IsWholeOf bytes found node)
-    → ((sqnum group : ℕ) (node : LeafNode) → IsLeafNode bytes sqnum group node → found.kind ≡ leaf_type node → content ≡ content_of node)
+    → ((sqnum group : ℕ) (node : LeafNode) → IsLeafNode bytes sqnum group node → found.kind ≡ leaf_type node → content ≡ node_content_of node)
     → IsCommittedRead contents x (record { leaf = x; found = Some (record { content = content; sqnum = found.sqnum; lnum = x.lnum; offs = x.offs; len = x.len }) })
 some_told contents x bytes found node content here h says =
     let placed : Placed = record { node = node; sqnum = found.sqnum; group = found.group; lnum = x.lnum; offs = x.offs; len = x.len } in

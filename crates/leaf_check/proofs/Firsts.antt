@@ -11,7 +11,7 @@ use Rattle.sound_image.specs.declared.breach.Breach.{Breach}
 use Rattle.sound_image.specs.declared.breach.Breach.TheVariants.{Super as InSuper, Feature as NeedsOne, NoMaster, Damaged}
 use Rattle.sound_image.specs.declared.rule.Rule.{Rule}
 use Rattle.sound_image.specs.declared.rule.Rule.TheVariants as rules
-use Rattle.image_check.specs.FirstLaws.{first_alone, first_of_both, first_same, not_before}
+use Rattle.image_check.specs.FirstLaws.{first_alone, first_of_both, first_same, not_before_place}
 use Rattle.image_check.specs.Told.{IsBreachOf}
 use Rattle.image_check.specs.WrongValues.{IsFirstOf, sooner_of, wrong_at}
 use Rattle.image_check.specs.declared.wrong_value.WrongValue.{WrongValue}
@@ -79,7 +79,7 @@ feature_first s here wrong what e one =
       least = λ other w. (
           let l = w.at_lnum in
           let o = w.at_offs in
-          not_before other first (omega (arith, l)) (λ same. omega (arith, o)) (λ same here. w.misfit ∙ misfit_needs s w.one what e)
+          not_before_place other first (omega (arith, l)) (λ same. omega (arith, o)) (λ same here. w.misfit ∙ misfit_needs s w.one what e)
           );
     }
 
@@ -97,13 +97,13 @@ place_not y here other at ol oo al ao not same =
     elim (cases_lt y.lnum here.lnum) [
       | inl less ↦ absurd (not (inl less))
       | inr high ↦ elim (cases_lt here.lnum y.lnum) [
-        | inl more ↦ not_before other at (omega (arith, ol, al, more)) (λ e. absurd (omega (arith, e, ol, al, more))) (λ e f. absurd (omega (arith, e, ol, al, more)))
+        | inl more ↦ not_before_place other at (omega (arith, ol, al, more)) (λ e. absurd (omega (arith, e, ol, al, more))) (λ e f. absurd (omega (arith, e, ol, al, more)))
         | inr low ↦
             let l : y.lnum ≡ here.lnum = omega (arith, high, low) in
             elim (cases_lt y.offs here.offs) [
               | inl less ↦ absurd (not (inr (l, less)))
               | inr far ↦ elim (cases_lt here.offs y.offs) [
-                | inl more ↦ not_before other at (omega (arith, ol, al, l)) (λ e. omega (arith, oo, ao, more)) (λ e f. absurd (omega (arith, f, oo, ao, more)))
+                | inl more ↦ not_before_place other at (omega (arith, ol, al, l)) (λ e. omega (arith, oo, ao, more)) (λ e f. absurd (omega (arith, f, oo, ao, more)))
                 | inr near ↦ same l (omega (arith, far, near))
               ]
             ]

@@ -6,10 +6,10 @@ use Rattle.index_tree.specs.declared.leaf.Leaf.{Leaf}
 use Rattle.sound_image.specs.Leaves.{IsSoundLeaf}
 use Rattle.sound_image.specs.Wrong.{IsOneOf}
 use Rattle.leaf_check.specs.Overlaps.{StandsBefore}
-use Rattle.leaf_check.specs.Sweep.{IsJudged}
+use Rattle.leaf_check.specs.Sweep.{IsLeafJudged}
 use Rattle.leaf_check.proofs.SoundLeaves.{sound_moved}
 
-pub judged_moved : (c d : ℕ → List ℕ) (geo : RawGeometry) (props : List Lprop) (last : Option Leaf) (x : Leaf) (behind old new : List Leaf) → ((k : ℕ) → c k ≡ d k) → IsJudged (IsSoundLeaf c geo props) last x behind old new → IsJudged (IsSoundLeaf d geo props) last x behind old new
+pub judged_moved : (c d : ℕ → List ℕ) (geo : RawGeometry) (props : List Lprop) (last : Option Leaf) (x : Leaf) (behind old new : List Leaf) → ((k : ℕ) → c k ≡ d k) → IsLeafJudged (IsSoundLeaf c geo props) last x behind old new → IsLeafJudged (IsSoundLeaf d geo props) last x behind old new
 judged_moved c d geo props last x behind old new e (inl (pushed, inl touched)) = inl (pushed, inl touched)
 judged_moved c d geo props last x behind old new e (inl (pushed, inr unsound)) = inl (pushed, inr (λ sound. unsound (sound_moved d c geo props x (λ k. sym (e k)) sound)))
 judged_moved c d geo props last x behind old new e (inr (same, apart, sound)) = inr (same, apart, sound_moved c d geo props x e sound)

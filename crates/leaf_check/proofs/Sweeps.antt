@@ -6,7 +6,7 @@ use Rattle.index_tree.specs.declared.leaf.Leaf.{Leaf}
 use Rattle.sound_image.specs.Wrong.{IsOneOf}
 use Rattle.sound_image.specs.WrongLaws.{front_of_two, one_of_two, one_of_none}
 use Rattle.leaf_check.specs.Overlaps.{IsNarrow, IsOverlapped, StandsBefore, is_clear_of, overlaps, place_rank, touches}
-use Rattle.leaf_check.specs.Sweep.{IsBadAmong, IsJudged, IsRightAmong, IsSwept, IsUpTo}
+use Rattle.leaf_check.specs.Sweep.{IsBadAmong, IsLeafJudged, IsRightAmong, IsSwept, IsUpTo}
 use Rattle.leaf_check.proofs.Overlaps.{AllAbove, AllNarrow, Ascend, CrossedBefore, crossed_back, last_of, one_overlaps, overlapped_behind, step_apart, step_touches, ascend_behind, narrow_behind}
 
 pub the_one : (x y : Leaf) → IsOneOf x (y ∷ []) → x ≡ y
@@ -147,7 +147,7 @@ swept_past IsSound done rest leaves wrong x w split narrow up one stands h =
         stands_far w x leaf thin.0 (narrow_one leaf before behind (subst N e thin)) (above_one (place_rank x) leaf before behind (subst B e own)) stands
 
 -- one leaf more was judged
-pub swept_next : (IsSound : Leaf → Type 0) (done rest leaves wrong more : List Leaf) (last : Option Leaf) (x : Leaf) → leaves ≡ done ++ (x ∷ rest) → last ≡ last_of None done → AllNarrow leaves → Ascend leaves → IsJudged IsSound last x rest wrong more → SweptSoFar IsSound done leaves wrong → SweptSoFar IsSound (done ++ (x ∷ [])) leaves more
+pub swept_next : (IsSound : Leaf → Type 0) (done rest leaves wrong more : List Leaf) (last : Option Leaf) (x : Leaf) → leaves ≡ done ++ (x ∷ rest) → last ≡ last_of None done → AllNarrow leaves → Ascend leaves → IsLeafJudged IsSound last x rest wrong more → SweptSoFar IsSound done leaves wrong → SweptSoFar IsSound (done ++ (x ∷ [])) leaves more
 swept_next IsSound done rest leaves wrong more last x split end narrow up (inl (pushed, inl touched)) h =
     let P : Option Leaf → Type 0 = λ o. touches o x rest ≡ true in
     swept_wrong IsSound done rest leaves wrong more x split pushed (touched_bad IsSound done rest leaves x split (subst P end touched)) h

@@ -27,8 +27,8 @@ pub record IsNarrow (leaf : Leaf) : Type 0 where
   pub len_fits : leaf.len < 2 ^ 32
 
 -- leaves are in that order
-abbrev pub AreInOrder : List Leaf → Type 0
-AreInOrder leaves = IsNonDecreasingBy place_rank leaves
+abbrev pub AreLeavesInOrder : List Leaf → Type 0
+AreLeavesInOrder leaves = IsNonDecreasingBy place_rank leaves
 
 -- a leaf's place comes before that of another
 abbrev pub StandsBefore : Leaf → Leaf → Type 0

@@ -18,8 +18,8 @@ abbrev pub IsUpTo : List Leaf → Leaf → Type 0
 IsUpTo wrong leaf = IsOneOf leaf wrong ⊎ ((other : Leaf) × IsOneOf other wrong × StandsBefore other leaf)
 
 -- a leaf was kept, since it overlaps a neighbour or is not sound; or it is right
-abbrev pub IsJudged : (Leaf → Type 0) → Option Leaf → Leaf → List Leaf → List Leaf → List Leaf → Type 0
-IsJudged IsSound last leaf behind old new =
+abbrev pub IsLeafJudged : (Leaf → Type 0) → Option Leaf → Leaf → List Leaf → List Leaf → List Leaf → Type 0
+IsLeafJudged IsSound last leaf behind old new =
     ((new ≡ old ++ (leaf ∷ [])) × (IsTrue (touches last leaf behind) ⊎ (IsSound leaf → ⊥)))
     ⊎ ((new ≡ old) × IsFalse (touches last leaf behind) × IsSound leaf)
 

@@ -3,7 +3,7 @@
 ghost use Rattle.std.specs.Prelude.{◌≡◌, IfOk};
 ghost use Rattle.std.specs.List.{AllByRecursion};
 ghost use Rattle.std.specs.List.Sorted.{IsPermutation};
-ghost use Rattle.leaf_check.specs.Overlaps.{AreInOrder, IsNarrow, place_rank as rank_of};
+ghost use Rattle.leaf_check.specs.Overlaps.{AreLeavesInOrder, IsNarrow, place_rank as rank_of};
 
 use index_tree::Leaf;
 use std::alloc::{AllocError, Global};
@@ -11,7 +11,7 @@ use std::alloc::{AllocError, Global};
 /// These leaves in order of LEB, offset and length. The error is want of memory.
 pub(crate) fn in_order(alloc: Global, leaves: &[Leaf]) -> Result<Vec<Leaf>, AllocError>
     ensures same { IfOk result (λ ordered. IsPermutation leaves.now ordered.items) }
-    ensures order { IfOk result (λ ordered. AreInOrder ordered.items) }
+    ensures order { IfOk result (λ ordered. AreLeavesInOrder ordered.items) }
     ensures narrow { IfOk result (λ ordered. AllByRecursion IsNarrow ordered.items) }
 {
     let mut ordered = copied(alloc, leaves)?;
@@ -44,7 +44,7 @@ fn same(leaf: Leaf) -> Leaf
 /// Puts leaves in order of LEB, offset and length.
 pub(crate) fn put_in_order(leaves: &mut Vec<Leaf>)
     ensures same { IsPermutation leaves.old.items leaves.new.items }
-    ensures order { AreInOrder leaves.new.items }
+    ensures order { AreLeavesInOrder leaves.new.items }
 {
     leaves.sort_unstable_by_key(|leaf| place_rank(leaf));
 }

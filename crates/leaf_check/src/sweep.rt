@@ -6,8 +6,8 @@ ghost use Rattle.ubifs_base.specs.RawOf.{raw_of};
 ghost use Rattle.ubi_volume.specs.Volume.{Keeps, SameShape};
 ghost use Rattle.ubi_volume.specs.Faults.{HasAreaCause, HasCause, StaysSure, StaysSureArea};
 ghost use Rattle.sound_image.specs.Leaves.{HasItsNode, IsSoundLeaf};
-ghost use Rattle.leaf_check.specs.Overlaps.{AreInOrder, IsNarrow, touches as touches_one};
-ghost use Rattle.leaf_check.specs.Sweep.{IsJudged, IsSwept};
+ghost use Rattle.leaf_check.specs.Overlaps.{AreLeavesInOrder, IsNarrow, touches as touches_one};
+ghost use Rattle.leaf_check.specs.Sweep.{IsLeafJudged, IsSwept};
 
 use crate::known::{from_place, is_first};
 use crate::order::in_order;
@@ -61,7 +61,7 @@ fn sweep<V: Volume>(
     buffer: &mut [u8],
 ) -> Result<Vec<Leaf>, AreaFault>
     requires room { length buffer.old ≡ 4256 }
-    requires order { AreInOrder ordered.now }
+    requires order { AreLeavesInOrder ordered.now }
     requires narrow { AllByRecursion IsNarrow ordered.now }
     requires intact { AllByRecursion (HasItsNode (V.state volume.old).holds) intact.now }
     ensures swept { IfOk result (λ wrong. IsSwept (IsSoundLeaf (V.state volume.old).holds (raw_of geometry.now) props.now) ordered.now wrong.items) }
@@ -104,7 +104,7 @@ fn judge<V: Volume>(
     requires room { length buffer.old ≡ 4256 }
     requires intact { IsTrue intact → HasItsNode (V.state volume.old).holds leaf.now }
     ensures len { length buffer.new ≡ length buffer.old }
-    ensures judged { OnOk result (IsJudged (IsSoundLeaf (V.state volume.old).holds (raw_of geometry.now) props.now) last leaf.now behind.now wrong.old.items wrong.new.items) }
+    ensures judged { OnOk result (IsLeafJudged (IsSoundLeaf (V.state volume.old).holds (raw_of geometry.now) props.now) last leaf.now behind.now wrong.old.items wrong.new.items) }
     ensures keeps { Keeps (V.state volume.old) (V.state volume.new) }
     ensures shape { SameShape (V.state volume.old) (V.state volume.new) }
     ensures cause { HasAreaCause (V.state volume.old).faults (V.state volume.new).faults result }

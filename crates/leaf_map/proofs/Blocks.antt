@@ -17,13 +17,13 @@ use Rattle.leaf_map.specs.After.{goes, is_gone, put_leaf}
 use Rattle.leaf_map.specs.Kept.{Kept, shown_by}
 use Rattle.leaf_map.specs.LeafMap.{HasKeyOf, IsKeyed}
 use Rattle.leaf_map.specs.RankLaws.{rank_is, rank_shown}
-use Rattle.leaf_map.specs.Shown.{blocks_of, with_block}
+use Rattle.leaf_map.specs.Shown.{blocks_shown_by, with_shown_block}
 use Rattle.fs_laws.specs.Insertions.{reversed}
 use Rattle.leaf_map.proofs.Maps.{insert_front, less_is, equal_is}
 use Rattle.leaf_map.proofs.Ranks.{leaves, are_from, ordered_all}
 use Rattle.leaf_map.proofs.Steps.{Reads, put_here, put_past, put_before}
 
-pub read_blocks : Reads with_block blocks_of
+pub read_blocks : Reads with_shown_block blocks_shown_by
 read_blocks = record { step = λ x kept. refl }
 
 -- the place of a block
@@ -41,7 +41,7 @@ lower i n j m a b differ l = elim (eqb_tells i j) [
       rw (less_is i j less) refl
 ]
 
-block_here : (ino number : ℕ) (bytes : List ℕ) (s : Option Change) (rest : Blocks) → goes (SetBlock ino number bytes) s ≡ true → ((ino, number), bytes) ∷ rest ≡ insert_entry pair_cmp (with_block s rest) (ino, number) bytes
+block_here : (ino number : ℕ) (bytes : List ℕ) (s : Option Change) (rest : Blocks) → goes (SetBlock ino number bytes) s ≡ true → ((ino, number), bytes) ∷ rest ≡ insert_entry pair_cmp (with_shown_block s rest) (ino, number) bytes
 block_here ino number bytes (Some (SetBlock other at old)) rest h =
     let p = and_parts (other == ino) (at == number) h in
     let a = eqb-true other ino p.0 in
@@ -59,7 +59,7 @@ has_number x (Some (SetBlock other at old)) h = h.1
 has_number x s h = tt
 
 block_past : (ino number : ℕ) (bytes : List ℕ) (s : Option Change) (rest : Blocks) → number < 2 ^ 29 → HasNumber s → goes (SetBlock ino number bytes) s ≡ false → rank_shown s ≤ place ino number
-    → with_block s (insert_entry pair_cmp rest (ino, number) bytes) ≡ insert_entry pair_cmp (with_block s rest) (ino, number) bytes
+    → with_shown_block s (insert_entry pair_cmp rest (ino, number) bytes) ≡ insert_entry pair_cmp (with_shown_block s rest) (ino, number) bytes
 block_past ino number bytes (Some (SetBlock other at old)) rest small fits h l = rw (reversed pair_cmp pairs (other, at) (ino, number) Less (lower other at ino number fits small h l)) refl
 block_past ino number bytes s rest small fits h l = refl
 
@@ -70,11 +70,11 @@ turned a b c d h = elim (eqb_tells a b) [
 ]
 
 block_before : (ino number : ℕ) (bytes : List ℕ) (s : Option Change) (rest : Blocks) → number < 2 ^ 29 → HasNumber s → goes (SetBlock ino number bytes) s ≡ false → place ino number ≤ rank_shown s
-    → list_all (λ e. is_lt (pair_cmp (ino, number) e.0)) rest ≡ true → ((ino, number), bytes) ∷ with_block s rest ≡ insert_entry pair_cmp (with_block s rest) (ino, number) bytes
+    → list_all (λ e. is_lt (pair_cmp (ino, number) e.0)) rest ≡ true → ((ino, number), bytes) ∷ with_shown_block s rest ≡ insert_entry pair_cmp (with_shown_block s rest) (ino, number) bytes
 block_before ino number bytes (Some (SetBlock other at old)) rest small fits h l above = rw (lower ino number other at small fits (turned other ino at number h) l) refl
 block_before ino number bytes s rest small fits h l above = sym (insert_front pair_cmp rest (ino, number) bytes above)
 
-above_step : (ino number : ℕ) (s : Option Change) (rest : Blocks) → number < 2 ^ 29 → HasNumber s → place ino number < rank_shown s → list_all (λ e. is_lt (pair_cmp (ino, number) e.0)) rest ≡ true → list_all (λ e. is_lt (pair_cmp (ino, number) e.0)) (with_block s rest) ≡ true
+above_step : (ino number : ℕ) (s : Option Change) (rest : Blocks) → number < 2 ^ 29 → HasNumber s → place ino number < rank_shown s → list_all (λ e. is_lt (pair_cmp (ino, number) e.0)) rest ≡ true → list_all (λ e. is_lt (pair_cmp (ino, number) e.0)) (with_shown_block s rest) ≡ true
 above_step ino number (Some (SetBlock other at old)) rest small fits l h =
     let differ : ((ino == other) && (number == at)) ≡ false = elim (eqb_tells ino other) [
       | inl same ↦ let less : number < at = omega (arith, l, same.1) in let apart : (number == at) ≡ false = grind (arith, nat_tests) in rw (same.0, apart) refl
@@ -85,7 +85,7 @@ above_step ino number s rest small fits l h = h
 
 -- the same where a block has another key and no lower place
 pub block_above_step : (ino number : ℕ) (bytes : List ℕ) (s : Option Change) (rest : Blocks) → number < 2 ^ 29 → HasNumber s → not (goes (SetBlock ino number bytes) s) ≡ true → place ino number ≤ rank_shown s → list_all (λ e. is_lt (pair_cmp (ino, number) e.0)) rest ≡ true
-    → list_all (λ e. is_lt (pair_cmp (ino, number) e.0)) (with_block s rest) ≡ true
+    → list_all (λ e. is_lt (pair_cmp (ino, number) e.0)) (with_shown_block s rest) ≡ true
 block_above_step ino number bytes (Some (SetBlock other at old)) rest small fits n l h = by (goes (SetBlock ino number bytes) (Some (SetBlock other at old))) refl n
   where
     by : (b : Bool) → goes (SetBlock ino number bytes) (Some (SetBlock other at old)) ≡ b → not b ≡ true → list_all (λ e. is_lt (pair_cmp (ino, number) e.0)) (((other, at), old) ∷ rest) ≡ true
@@ -93,18 +93,18 @@ block_above_step ino number bytes (Some (SetBlock other at old)) rest small fits
     by false e t = rw (lower ino number other at small fits (turned other ino at number e) l) h
 block_above_step ino number bytes s rest small fits n l h = h
 
-blocks_above : (ino number low : ℕ) (kept : List Kept) → number < 2 ^ 29 → AllByRecursion IsKeyed kept → place ino number < low → are_from low kept ≡ true → list_all (λ e. is_lt (pair_cmp (ino, number) e.0)) (blocks_of kept) ≡ true
+blocks_above : (ino number low : ℕ) (kept : List Kept) → number < 2 ^ 29 → AllByRecursion IsKeyed kept → place ino number < low → are_from low kept ≡ true → list_all (λ e. is_lt (pair_cmp (ino, number) e.0)) (blocks_shown_by kept) ≡ true
 blocks_above ino number low [] small k l h = refl
 blocks_above ino number low (x ∷ kept) small k l h =
     let p = and_parts (nat_le low (leaf_rank x.leaf)) (are_from low kept) h in
     let here = leb-true low (leaf_rank x.leaf) p.0 in
     let rank = rank_is x.leaf (shown_by x) k.0 in
-    above_step ino number (shown_by x) (blocks_of kept) small (has_number x (shown_by x) k.0) (omega (arith, l, here, rank)) (blocks_above ino number low kept small k.1 l p.1)
+    above_step ino number (shown_by x) (blocks_shown_by kept) small (has_number x (shown_by x) k.0) (omega (arith, l, here, rank)) (blocks_above ino number low kept small k.1 l p.1)
 
 -- a block that is put is set
 pub put_blocks : (ino number : ℕ) (bytes : List ℕ) (new : Kept) (low : ℕ) (kept : List Kept) → number < 2 ^ 29 → shown_by new ≡ Some (SetBlock ino number bytes) → leaf_rank new.leaf ≡ place ino number → AllByRecursion IsKeyed kept → ordered_from low (leaves kept) ≡ true
-    → blocks_of (put_leaf (is_gone (SetBlock ino number bytes)) new kept) ≡ insert_entry pair_cmp (blocks_of kept) (ino, number) bytes
-put_blocks ino number bytes new low [] small s r k o = ap (λ z. with_block z []) s
+    → blocks_shown_by (put_leaf (is_gone (SetBlock ino number bytes)) new kept) ≡ insert_entry pair_cmp (blocks_shown_by kept) (ino, number) bytes
+put_blocks ino number bytes new low [] small s r k o = ap (λ z. with_shown_block z []) s
 put_blocks ino number bytes new low (x ∷ kept) small s r k o =
     let p = and_parts (nat_le low (leaf_rank x.leaf)) (ordered_from (leaf_rank x.leaf) (leaves kept)) o in
     by p.1 (put_blocks ino number bytes new (leaf_rank x.leaf) kept small s r k.1 p.1) (goes (SetBlock ino number bytes) (shown_by x)) refl (nat_le (leaf_rank x.leaf) (leaf_rank new.leaf)) refl
@@ -118,51 +118,51 @@ put_blocks ino number bytes new low (x ∷ kept) small s r k o =
     fits : HasNumber (shown_by x)
     fits = has_number x (shown_by x) k.0
 
-    by : ordered_from (leaf_rank x.leaf) (leaves kept) ≡ true → blocks_of (put_leaf old new kept) ≡ insert_entry pair_cmp (blocks_of kept) (ino, number) bytes → (b : Bool) → goes (SetBlock ino number bytes) (shown_by x) ≡ b → (l : Bool) → nat_le (leaf_rank x.leaf) (leaf_rank new.leaf) ≡ l
-        → blocks_of (put_leaf old new (x ∷ kept)) ≡ insert_entry pair_cmp (blocks_of (x ∷ kept)) (ino, number) bytes
-    by rest more true g l e = ap blocks_of (put_here old new x kept g) ∙ ap (λ z. with_block z (blocks_of kept)) s ∙ block_here ino number bytes (shown_by x) (blocks_of kept) g
+    by : ordered_from (leaf_rank x.leaf) (leaves kept) ≡ true → blocks_shown_by (put_leaf old new kept) ≡ insert_entry pair_cmp (blocks_shown_by kept) (ino, number) bytes → (b : Bool) → goes (SetBlock ino number bytes) (shown_by x) ≡ b → (l : Bool) → nat_le (leaf_rank x.leaf) (leaf_rank new.leaf) ≡ l
+        → blocks_shown_by (put_leaf old new (x ∷ kept)) ≡ insert_entry pair_cmp (blocks_shown_by (x ∷ kept)) (ino, number) bytes
+    by rest more true g l e = ap blocks_shown_by (put_here old new x kept g) ∙ ap (λ z. with_shown_block z (blocks_shown_by kept)) s ∙ block_here ino number bytes (shown_by x) (blocks_shown_by kept) g
     by rest more false g true e =
         let le = leb-true (leaf_rank x.leaf) (leaf_rank new.leaf) e in
         let here = rank in
-        ap blocks_of (put_past old new x kept g e) ∙ ap (with_block (shown_by x)) more ∙ block_past ino number bytes (shown_by x) (blocks_of kept) small fits g (omega (arith, le, r, here))
+        ap blocks_shown_by (put_past old new x kept g e) ∙ ap (with_shown_block (shown_by x)) more ∙ block_past ino number bytes (shown_by x) (blocks_shown_by kept) small fits g (omega (arith, le, r, here))
     by rest more false g false e =
         let gt = leb-false (leaf_rank x.leaf) (leaf_rank new.leaf) e in
         let here = rank in
         let above = blocks_above ino number (leaf_rank x.leaf) kept small k.1 (omega (arith, gt, r)) (ordered_all (leaf_rank x.leaf) (leaf_rank x.leaf) kept (omega arith) rest) in
-        ap blocks_of (put_before old new x kept g e) ∙ ap (λ z. with_block z (blocks_of (x ∷ kept))) s ∙ block_before ino number bytes (shown_by x) (blocks_of kept) small fits g (omega (arith, gt, r, here)) above
+        ap blocks_shown_by (put_before old new x kept g e) ∙ ap (λ z. with_shown_block z (blocks_shown_by (x ∷ kept))) s ∙ block_before ino number bytes (shown_by x) (blocks_shown_by kept) small fits g (omega (arith, gt, r, here)) above
 
-cut_step : (ino old_size new_size : ℕ) (s : Option Change) (rest : Blocks) → (b : Bool) → goes (CutBlocks ino old_size new_size) s ≡ b → cond (not b) (with_block s (cut_blocks rest ino new_size)) (cut_blocks rest ino new_size) ≡ cut_blocks (with_block s rest) ino new_size
+cut_step : (ino old_size new_size : ℕ) (s : Option Change) (rest : Blocks) → (b : Bool) → goes (CutBlocks ino old_size new_size) s ≡ b → cond (not b) (with_shown_block s (cut_blocks rest ino new_size)) (cut_blocks rest ino new_size) ≡ cut_blocks (with_shown_block s rest) ino new_size
 cut_step ino old_size new_size (Some (SetBlock other at old)) rest true h = rw h refl
 cut_step ino old_size new_size (Some (SetBlock other at old)) rest false h = rw h refl
 cut_step ino old_size new_size s rest true h = absurd (false≢true h)
 cut_step ino old_size new_size s rest false h = refl
 
 -- a truncation cuts off the blocks of leaves as it does of a tree
-pub cut_leaves : (ino old_size new_size : ℕ) (kept : List Kept) → blocks_of (filter (λ x. not (is_gone (CutBlocks ino old_size new_size) x)) kept) ≡ cut_blocks (blocks_of kept) ino new_size
+pub cut_leaves : (ino old_size new_size : ℕ) (kept : List Kept) → blocks_shown_by (filter (λ x. not (is_gone (CutBlocks ino old_size new_size) x)) kept) ≡ cut_blocks (blocks_shown_by kept) ino new_size
 cut_leaves ino old_size new_size [] = refl
 cut_leaves ino old_size new_size (x ∷ kept) = by (cut_leaves ino old_size new_size kept) (is_gone (CutBlocks ino old_size new_size) x) refl
   where
     stay : Kept → Bool
     stay = λ x. not (is_gone (CutBlocks ino old_size new_size) x)
 
-    by : blocks_of (filter stay kept) ≡ cut_blocks (blocks_of kept) ino new_size → (b : Bool) → is_gone (CutBlocks ino old_size new_size) x ≡ b → blocks_of (cond (not b) (x ∷ filter stay kept) (filter stay kept)) ≡ cut_blocks (blocks_of (x ∷ kept)) ino new_size
-    by more true h = more ∙ cut_step ino old_size new_size (shown_by x) (blocks_of kept) true h
-    by more false h = ap (with_block (shown_by x)) more ∙ cut_step ino old_size new_size (shown_by x) (blocks_of kept) false h
+    by : blocks_shown_by (filter stay kept) ≡ cut_blocks (blocks_shown_by kept) ino new_size → (b : Bool) → is_gone (CutBlocks ino old_size new_size) x ≡ b → blocks_shown_by (cond (not b) (x ∷ filter stay kept) (filter stay kept)) ≡ cut_blocks (blocks_shown_by (x ∷ kept)) ino new_size
+    by more true h = more ∙ cut_step ino old_size new_size (shown_by x) (blocks_shown_by kept) true h
+    by more false h = ap (with_shown_block (shown_by x)) more ∙ cut_step ino old_size new_size (shown_by x) (blocks_shown_by kept) false h
 
-drop_step : (ino : ℕ) (s : Option Change) (rest : Blocks) → (b : Bool) → goes (DropInode ino) s ≡ b → cond (not b) (with_block s (without_blocks rest ino)) (without_blocks rest ino) ≡ without_blocks (with_block s rest) ino
+drop_step : (ino : ℕ) (s : Option Change) (rest : Blocks) → (b : Bool) → goes (DropInode ino) s ≡ b → cond (not b) (with_shown_block s (without_blocks rest ino)) (without_blocks rest ino) ≡ without_blocks (with_shown_block s rest) ino
 drop_step ino (Some (SetBlock other at old)) rest true h = rw h refl
 drop_step ino (Some (SetBlock other at old)) rest false h = rw h refl
 drop_step ino s rest true h = refl
 drop_step ino s rest false h = refl
 
 -- and an inode that goes takes its blocks
-pub drop_blocks : (ino : ℕ) (kept : List Kept) → blocks_of (filter (λ x. not (is_gone (DropInode ino) x)) kept) ≡ without_blocks (blocks_of kept) ino
+pub drop_blocks : (ino : ℕ) (kept : List Kept) → blocks_shown_by (filter (λ x. not (is_gone (DropInode ino) x)) kept) ≡ without_blocks (blocks_shown_by kept) ino
 drop_blocks ino [] = refl
 drop_blocks ino (x ∷ kept) = by (drop_blocks ino kept) (is_gone (DropInode ino) x) refl
   where
     stay : Kept → Bool
     stay = λ x. not (is_gone (DropInode ino) x)
 
-    by : blocks_of (filter stay kept) ≡ without_blocks (blocks_of kept) ino → (b : Bool) → is_gone (DropInode ino) x ≡ b → blocks_of (cond (not b) (x ∷ filter stay kept) (filter stay kept)) ≡ without_blocks (blocks_of (x ∷ kept)) ino
-    by more true h = more ∙ drop_step ino (shown_by x) (blocks_of kept) true h
-    by more false h = ap (with_block (shown_by x)) more ∙ drop_step ino (shown_by x) (blocks_of kept) false h
+    by : blocks_shown_by (filter stay kept) ≡ without_blocks (blocks_shown_by kept) ino → (b : Bool) → is_gone (DropInode ino) x ≡ b → blocks_shown_by (cond (not b) (x ∷ filter stay kept) (filter stay kept)) ≡ without_blocks (blocks_shown_by (x ∷ kept)) ino
+    by more true h = more ∙ drop_step ino (shown_by x) (blocks_shown_by kept) true h
+    by more false h = ap (with_shown_block (shown_by x)) more ∙ drop_step ino (shown_by x) (blocks_shown_by kept) false h

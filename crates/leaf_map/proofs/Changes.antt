@@ -11,12 +11,12 @@ use Rattle.fs_model.specs.declared.inode.Entry.{Entry}
 use Rattle.fs_model.specs.Change.{applied, changed, key_number}
 use Rattle.fs_model.specs.Files.{Tree, Inodes, Blocks, Entries, inode_at, with_block as set_block}
 use Rattle.group_nodes.specs.Nodes.{change_of}
-use Rattle.leaf_map.specs.After.{Carries, goes, has_inode, is_gone, is_idle, is_set, kept_after, kept_by, kept_with, put_leaf, read}
+use Rattle.leaf_map.specs.After.{ShowsChange, goes, has_inode, is_gone, is_idle, is_set, kept_after, kept_by, kept_with, put_leaf, read}
 use Rattle.leaf_map.specs.Kept.{Kept, Placed, kept_at, shown, shown_by}
 use Rattle.leaf_map.specs.KeyedLaws.{node_keyed, read_carried}
 use Rattle.leaf_map.specs.LeafMap.{HasKeyOf, IsLeafMap}
 use Rattle.leaf_map.specs.RankLaws.{rank_is, rank_shown}
-use Rattle.leaf_map.specs.Shown.{blocks_of, entries_of, inodes_of, tree_of, with_block, with_entry, with_inode}
+use Rattle.leaf_map.specs.Shown.{blocks_shown_by, entries_of, inodes_of, tree_of, with_shown_block, with_entry, with_shown_inode}
 use Rattle.leaf_map.proofs.Apart.{filter_map, put_map}
 use Rattle.leaf_map.proofs.Blocks.{cut_leaves, drop_blocks, put_blocks, read_blocks}
 use Rattle.leaf_map.proofs.Drops.{drop_inodes}
@@ -31,7 +31,7 @@ pub tree_is : (a b : Inodes) (c d : Blocks) (e f : Entries) (highest : ℕ) → 
 tree_is a b c d e f highest i j k = ap (λ z. tree z c e highest) i ∙ ap (λ z. tree b z e highest) j ∙ ap (λ z. tree b d z highest) k
 
 -- ---- what isn't touched
-inode_no_block : (ino : ℕ) (inode : Inode) (s : Option Change) (a : Blocks) → goes (SetInode ino inode) s ≡ true → with_block s a ≡ a
+inode_no_block : (ino : ℕ) (inode : Inode) (s : Option Change) (a : Blocks) → goes (SetInode ino inode) s ≡ true → with_shown_block s a ≡ a
 inode_no_block ino inode (Some (SetBlock other at old)) a h = absurd (false≢true h)
 inode_no_block ino inode s a h = refl
 
@@ -39,7 +39,7 @@ inode_no_entry : (ino : ℕ) (inode : Inode) (s : Option Change) (a : Entries) �
 inode_no_entry ino inode (Some (SetEntry old)) a h = absurd (false≢true h)
 inode_no_entry ino inode s a h = refl
 
-block_no_inode : (ino number : ℕ) (bytes : List ℕ) (s : Option Change) (a : Inodes) → goes (SetBlock ino number bytes) s ≡ true → with_inode s a ≡ a
+block_no_inode : (ino number : ℕ) (bytes : List ℕ) (s : Option Change) (a : Inodes) → goes (SetBlock ino number bytes) s ≡ true → with_shown_inode s a ≡ a
 block_no_inode ino number bytes (Some (SetInode other old)) a h = absurd (false≢true h)
 block_no_inode ino number bytes s a h = refl
 
@@ -47,23 +47,23 @@ block_no_entry : (ino number : ℕ) (bytes : List ℕ) (s : Option Change) (a : 
 block_no_entry ino number bytes (Some (SetEntry old)) a h = absurd (false≢true h)
 block_no_entry ino number bytes s a h = refl
 
-entry_no_inode : (e : Entry) (s : Option Change) (a : Inodes) → goes (SetEntry e) s ≡ true → with_inode s a ≡ a
+entry_no_inode : (e : Entry) (s : Option Change) (a : Inodes) → goes (SetEntry e) s ≡ true → with_shown_inode s a ≡ a
 entry_no_inode e (Some (SetInode other old)) a h = absurd (false≢true h)
 entry_no_inode e s a h = refl
 
-entry_no_block : (e : Entry) (s : Option Change) (a : Blocks) → goes (SetEntry e) s ≡ true → with_block s a ≡ a
+entry_no_block : (e : Entry) (s : Option Change) (a : Blocks) → goes (SetEntry e) s ≡ true → with_shown_block s a ≡ a
 entry_no_block e (Some (SetBlock other at old)) a h = absurd (false≢true h)
 entry_no_block e s a h = refl
 
-name_no_inode : (dir : ℕ) (name : List ℕ) (s : Option Change) (a : Inodes) → goes (DropEntry dir name) s ≡ true → with_inode s a ≡ a
+name_no_inode : (dir : ℕ) (name : List ℕ) (s : Option Change) (a : Inodes) → goes (DropEntry dir name) s ≡ true → with_shown_inode s a ≡ a
 name_no_inode dir name (Some (SetInode other old)) a h = absurd (false≢true h)
 name_no_inode dir name s a h = refl
 
-name_no_block : (dir : ℕ) (name : List ℕ) (s : Option Change) (a : Blocks) → goes (DropEntry dir name) s ≡ true → with_block s a ≡ a
+name_no_block : (dir : ℕ) (name : List ℕ) (s : Option Change) (a : Blocks) → goes (DropEntry dir name) s ≡ true → with_shown_block s a ≡ a
 name_no_block dir name (Some (SetBlock other at old)) a h = absurd (false≢true h)
 name_no_block dir name s a h = refl
 
-cut_no_inode : (ino old_size new_size : ℕ) (s : Option Change) (a : Inodes) → goes (CutBlocks ino old_size new_size) s ≡ true → with_inode s a ≡ a
+cut_no_inode : (ino old_size new_size : ℕ) (s : Option Change) (a : Inodes) → goes (CutBlocks ino old_size new_size) s ≡ true → with_shown_inode s a ≡ a
 cut_no_inode ino old_size new_size (Some (SetInode other old)) a h = absurd (false≢true h)
 cut_no_inode ino old_size new_size s a h = refl
 
@@ -90,9 +90,9 @@ set_inode ino inode new kept highest b is =
     let c : Change = SetInode ino inode in
     let after : List Kept = put_leaf (is_gone c) new kept in
     let rank = rank_is new.leaf (Some c) b.key in
-    let blocks = put_leaves with_block blocks_of c new read_blocks (λ a. ap (λ s. with_block s a) b.shows) (inode_no_block ino inode) kept in
+    let blocks = put_leaves with_shown_block blocks_shown_by c new read_blocks (λ a. ap (λ s. with_shown_block s a) b.shows) (inode_no_block ino inode) kept in
     let entries = put_leaves with_entry entries_of c new read_entries (λ a. ap (λ s. with_entry s a) b.shows) (inode_no_entry ino inode) kept in
-    tree_is (inodes_of after) (changed (tree_of kept highest) c).inodes (blocks_of after) (blocks_of kept) (entries_of after) (entries_of kept) (max highest ino)
+    tree_is (inodes_of after) (changed (tree_of kept highest) c).inodes (blocks_shown_by after) (blocks_shown_by kept) (entries_of after) (entries_of kept) (max highest ino)
     (put_inodes ino inode new 0 kept b.shows rank is.keyed is.ordered) blocks entries
 
 set_entry : (e : Entry) (new : Kept) (kept : List Kept) (highest : ℕ) → Becomes (SetEntry e) new → IsLeafMap kept
@@ -100,20 +100,20 @@ set_entry : (e : Entry) (new : Kept) (kept : List Kept) (highest : ℕ) → Beco
 set_entry e new kept highest b is =
     let c : Change = SetEntry e in
     let after : List Kept = put_leaf (is_gone c) new kept in
-    let inodes = put_leaves with_inode inodes_of c new read_inodes (λ a. ap (λ s. with_inode s a) b.shows) (entry_no_inode e) kept in
-    let blocks = put_leaves with_block blocks_of c new read_blocks (λ a. ap (λ s. with_block s a) b.shows) (entry_no_block e) kept in
-    tree_is (inodes_of after) (inodes_of kept) (blocks_of after) (blocks_of kept) (entries_of after) (changed (tree_of kept highest) c).entries (max highest e.dir)
+    let inodes = put_leaves with_shown_inode inodes_of c new read_inodes (λ a. ap (λ s. with_shown_inode s a) b.shows) (entry_no_inode e) kept in
+    let blocks = put_leaves with_shown_block blocks_shown_by c new read_blocks (λ a. ap (λ s. with_shown_block s a) b.shows) (entry_no_block e) kept in
+    tree_is (inodes_of after) (inodes_of kept) (blocks_shown_by after) (blocks_shown_by kept) (entries_of after) (changed (tree_of kept highest) c).entries (max highest e.dir)
     inodes blocks (put_entries e new kept b.shows)
 
 put_block : (ino number : ℕ) (bytes : List ℕ) (new : Kept) (kept : List Kept) (highest : ℕ) → Becomes (SetBlock ino number bytes) new → IsLeafMap kept
-    → tree_of (put_leaf (is_gone (SetBlock ino number bytes)) new kept) highest ≡ tree (inodes_of kept) (set_block (blocks_of kept) ino number bytes) (entries_of kept) highest
+    → tree_of (put_leaf (is_gone (SetBlock ino number bytes)) new kept) highest ≡ tree (inodes_of kept) (set_block (blocks_shown_by kept) ino number bytes) (entries_of kept) highest
 put_block ino number bytes new kept highest b is =
     let c : Change = SetBlock ino number bytes in
     let after : List Kept = put_leaf (is_gone c) new kept in
     let rank = rank_is new.leaf (Some c) b.key in
-    let inodes = put_leaves with_inode inodes_of c new read_inodes (λ a. ap (λ s. with_inode s a) b.shows) (block_no_inode ino number bytes) kept in
+    let inodes = put_leaves with_shown_inode inodes_of c new read_inodes (λ a. ap (λ s. with_shown_inode s a) b.shows) (block_no_inode ino number bytes) kept in
     let entries = put_leaves with_entry entries_of c new read_entries (λ a. ap (λ s. with_entry s a) b.shows) (block_no_entry ino number bytes) kept in
-    tree_is (inodes_of after) (inodes_of kept) (blocks_of after) (set_block (blocks_of kept) ino number bytes) (entries_of after) (entries_of kept) highest
+    tree_is (inodes_of after) (inodes_of kept) (blocks_shown_by after) (set_block (blocks_shown_by kept) ino number bytes) (entries_of after) (entries_of kept) highest
     inodes (put_blocks ino number bytes new 0 kept b.key.1 b.shows rank is.keyed is.ordered) entries
 
 set_blocks : (ino number : ℕ) (bytes : List ℕ) (new : Kept) (kept : List Kept) (highest : ℕ) → Becomes (SetBlock ino number bytes) new → IsLeafMap kept
@@ -124,7 +124,7 @@ set_blocks ino number bytes new kept highest b is = by (has_inode kept ino) (is_
     c = SetBlock ino number bytes
 
     set : Tree
-    set = record (tree_of kept highest) { blocks = set_block (blocks_of kept) ino number bytes }
+    set = record (tree_of kept highest) { blocks = set_block (blocks_shown_by kept) ino number bytes }
 
     by : (h t : Bool) → h ≡ t → tree_of (cond (not h) kept (put_leaf (is_gone c) new kept)) (max highest ino) ≡ record (cond t set (tree_of kept highest)) { highest = max highest ino }
     by true true e = put_block ino number bytes new kept (max highest ino) b is
@@ -136,25 +136,25 @@ drop_name : (dir : ℕ) (name : List ℕ) (kept : List Kept) (highest : ℕ) →
 drop_name dir name kept highest =
     let c : Change = DropEntry dir name in
     let after : List Kept = filter (λ x. not (is_gone c x)) kept in
-    tree_is (inodes_of after) (inodes_of kept) (blocks_of after) (blocks_of kept) (entries_of after) (changed (tree_of kept highest) c).entries (max highest dir)
-    (drop_leaves with_inode inodes_of c read_inodes (name_no_inode dir name) kept) (drop_leaves with_block blocks_of c read_blocks (name_no_block dir name) kept) (drop_entries dir name kept)
+    tree_is (inodes_of after) (inodes_of kept) (blocks_shown_by after) (blocks_shown_by kept) (entries_of after) (changed (tree_of kept highest) c).entries (max highest dir)
+    (drop_leaves with_shown_inode inodes_of c read_inodes (name_no_inode dir name) kept) (drop_leaves with_shown_block blocks_shown_by c read_blocks (name_no_block dir name) kept) (drop_entries dir name kept)
 
 cut : (ino old_size new_size : ℕ) (kept : List Kept) (highest : ℕ) → tree_of (filter (λ x. not (is_gone (CutBlocks ino old_size new_size) x)) kept) (max highest ino) ≡ applied (tree_of kept highest) (CutBlocks ino old_size new_size)
 cut ino old_size new_size kept highest =
     let c : Change = CutBlocks ino old_size new_size in
     let after : List Kept = filter (λ x. not (is_gone c x)) kept in
-    tree_is (inodes_of after) (inodes_of kept) (blocks_of after) (changed (tree_of kept highest) c).blocks (entries_of after) (entries_of kept) (max highest ino)
-    (drop_leaves with_inode inodes_of c read_inodes (cut_no_inode ino old_size new_size) kept) (cut_leaves ino old_size new_size kept) (drop_leaves with_entry entries_of c read_entries (cut_no_entry ino old_size new_size) kept)
+    tree_is (inodes_of after) (inodes_of kept) (blocks_shown_by after) (changed (tree_of kept highest) c).blocks (entries_of after) (entries_of kept) (max highest ino)
+    (drop_leaves with_shown_inode inodes_of c read_inodes (cut_no_inode ino old_size new_size) kept) (cut_leaves ino old_size new_size kept) (drop_leaves with_entry entries_of c read_entries (cut_no_entry ino old_size new_size) kept)
 
 pub drop_inode : (ino : ℕ) (kept : List Kept) (highest now : ℕ) → IsLeafMap kept → tree_of (filter (λ x. not (is_gone (DropInode ino) x)) kept) now ≡ record (changed (tree_of kept highest) (DropInode ino)) { highest = now }
 drop_inode ino kept highest now is =
     let c : Change = DropInode ino in
     let after : List Kept = filter (λ x. not (is_gone c x)) kept in
-    tree_is (inodes_of after) (changed (tree_of kept highest) c).inodes (blocks_of after) (changed (tree_of kept highest) c).blocks (entries_of after) (entries_of kept) now
+    tree_is (inodes_of after) (changed (tree_of kept highest) c).inodes (blocks_shown_by after) (changed (tree_of kept highest) c).blocks (entries_of after) (entries_of kept) now
     (drop_inodes ino kept is.apart) (drop_blocks ino kept) (drop_leaves with_entry entries_of c read_entries (drop_no_entry ino) kept)
 
 -- the tree of the leaves after a change is the change applied to the tree
-pub tree_after : (change : Change) (new : Placed) (kept : List Kept) (highest : ℕ) → IsLeaf new.node → Carries change new.node → IsLeafMap kept
+pub tree_after : (change : Change) (new : Placed) (kept : List Kept) (highest : ℕ) → IsLeaf new.node → ShowsChange change new.node → IsLeafMap kept
     → tree_of (kept_by change (kept_at new) kept) (max highest (key_number change)) ≡ applied (tree_of kept highest) change
 tree_after (SetInode ino inode) new kept highest leaf c is = set_inode ino inode (kept_at new) kept highest (becomes (SetInode ino inode) new leaf c refl) is
 tree_after (SetEntry e) new kept highest leaf c is = set_entry e (kept_at new) kept highest (becomes (SetEntry e) new leaf c refl) is
@@ -168,7 +168,7 @@ idle_map : (change : Change) (new : Kept) (kept : List Kept) → IsLeafMap kept 
 idle_map change new kept is after true = is
 idle_map change new kept is after false = after
 
-pub map_after : (change : Change) (new : Placed) (kept : List Kept) → IsLeaf new.node → Carries change new.node → IsLeafMap kept → IsLeafMap (kept_by change (kept_at new) kept)
+pub map_after : (change : Change) (new : Placed) (kept : List Kept) → IsLeaf new.node → ShowsChange change new.node → IsLeafMap kept → IsLeafMap (kept_by change (kept_at new) kept)
 map_after (SetInode ino inode) new kept leaf c is = let b = becomes (SetInode ino inode) new leaf c refl in put_map (SetInode ino inode) (kept_at new) kept refl b.shows b.key is
 map_after (SetEntry e) new kept leaf c is = let b = becomes (SetEntry e) new leaf c refl in put_map (SetEntry e) (kept_at new) kept refl b.shows b.key is
 map_after (SetBlock ino number bytes) new kept leaf c is =
@@ -183,7 +183,7 @@ pub tree_read : (change : Change) (new : Placed) (kept : List Kept) (highest : �
     → tree_of (kept_after kept new) (max highest (key_number change)) ≡ applied (tree_of kept highest) change
 tree_read change new kept highest leaf e is = by (change_of new.node) e (read_carried new.node change e)
   where
-    by : (c : Option Change) → c ≡ Some change → Carries change new.node → tree_of (read c new kept) (max highest (key_number change)) ≡ applied (tree_of kept highest) change
+    by : (c : Option Change) → c ≡ Some change → ShowsChange change new.node → tree_of (read c new kept) (max highest (key_number change)) ≡ applied (tree_of kept highest) change
     by None f carries = absurd cc
     by (Some other) f carries =
         let same : change ≡ other = cc in
@@ -197,7 +197,7 @@ map_read new kept leaf is = by (change_of new.node) refl
     by (Some change) f = map_after change new kept leaf (read_carried new.node change f) is
 
 -- the leaf that a set change's node becomes has the change's place
-pub set_rank : (change : Change) (new : Placed) → IsLeaf new.node → Carries change new.node → is_set change ≡ true → leaf_rank (kept_at new).leaf ≡ rank_shown (Some change)
+pub set_rank : (change : Change) (new : Placed) → IsLeaf new.node → ShowsChange change new.node → is_set change ≡ true → leaf_rank (kept_at new).leaf ≡ rank_shown (Some change)
 set_rank (SetInode ino inode) new leaf c set = rank_is (kept_at new).leaf (Some (SetInode ino inode)) (becomes (SetInode ino inode) new leaf c refl).key
 set_rank (SetEntry e) new leaf c set = rank_is (kept_at new).leaf (Some (SetEntry e)) (becomes (SetEntry e) new leaf c refl).key
 set_rank (SetBlock ino number bytes) new leaf c set = rank_is (kept_at new).leaf (Some (SetBlock ino number bytes)) (becomes (SetBlock ino number bytes) new leaf c refl).key

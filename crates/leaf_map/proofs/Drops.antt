@@ -16,10 +16,10 @@ use Rattle.fs_laws.specs.Orders.{numbers}
 use Rattle.leaf_map.specs.After.{goes, is_gone}
 use Rattle.leaf_map.specs.Kept.{Kept, shown_by}
 use Rattle.leaf_map.specs.LeafMap.{are_apart, shows_same}
-use Rattle.leaf_map.specs.Shown.{inodes_of, with_inode}
+use Rattle.leaf_map.specs.Shown.{inodes_of, with_shown_inode}
 use Rattle.leaf_map.proofs.Maps.{remove_missing, equal_is}
 
-missing_step : (ino : ℕ) (old : Inode) (s : Option Change) (rest : Inodes) → not (goes (SetInode ino old) s) ≡ true → lookup (is_at (nat_cmp ino)) rest ≡ None → lookup (is_at (nat_cmp ino)) (with_inode s rest) ≡ None
+missing_step : (ino : ℕ) (old : Inode) (s : Option Change) (rest : Inodes) → not (goes (SetInode ino old) s) ≡ true → lookup (is_at (nat_cmp ino)) rest ≡ None → lookup (is_at (nat_cmp ino)) (with_shown_inode s rest) ≡ None
 missing_step ino old (Some (SetInode other inode)) rest n h = elim (eqb_tells other ino) [
   | inl same ↦ let no = rw same.0 at n in absurd (false≢true no)
   | inr differ ↦ rw (apart nat_cmp numbers ino other (λ e. differ.1 (sym e))) h
@@ -34,7 +34,7 @@ missing_inode ino old (x ∷ kept) h =
     missing_step ino old (shown_by x) (inodes_of kept) p.0 (missing_inode ino old kept p.1)
 
 drop_step : (ino : ℕ) (s : Option Change) (rest less : Inodes) (kept : List Kept) → less ≡ remove_entry (is_at (nat_cmp ino)) rest → inodes_of kept ≡ rest → list_all (λ y. not (shows_same s (shown_by y))) kept ≡ true → (b : Bool) → goes (DropInode ino) s ≡ b
-    → cond (not b) (with_inode s less) less ≡ remove_entry (is_at (nat_cmp ino)) (with_inode s rest)
+    → cond (not b) (with_shown_inode s less) less ≡ remove_entry (is_at (nat_cmp ino)) (with_shown_inode s rest)
 drop_step ino (Some (SetInode other old)) rest less kept l r h true g =
     let same : other ≡ ino = eqb-true other ino g in
     let P : ℕ → Type 0 = λ n. list_all (λ y. not (goes (SetInode n old) (shown_by y))) kept ≡ true in

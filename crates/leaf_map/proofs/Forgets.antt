@@ -23,7 +23,7 @@ use Rattle.leaf_map.specs.Kept.{Kept, shown_by}
 use Rattle.leaf_map.specs.LeafMap.{IsLeafMap, are_apart, shows_same}
 use Rattle.leaf_map.specs.Recovered.{is_unlinked, without_orphan}
 use Rattle.leaf_map.specs.SameLaws.{same_trees}
-use Rattle.leaf_map.specs.Shown.{inodes_of, tree_of, with_inode}
+use Rattle.leaf_map.specs.Shown.{inodes_of, tree_of, with_shown_inode}
 use Rattle.leaf_map.proofs.Apart.{filter_map}
 use Rattle.leaf_map.proofs.Changes.{drop_inode}
 use Rattle.leaf_map.proofs.Drops.{missing_inode}
@@ -221,7 +221,7 @@ forgets_close inos a b s t c =
 
 -- ---- on leaves
 unlinked_step : (ino : ℕ) (s : Option Change) (rest : Inodes) (kept : List Kept) (b : Bool) → inodes_of kept ≡ rest → list_all (λ y. not (shows_same s (shown_by y))) kept ≡ true
-    → b ≡ unlinked (lookup (is_at (nat_cmp ino)) rest) → (is_unlinked ino s || b) ≡ unlinked (lookup (is_at (nat_cmp ino)) (with_inode s rest))
+    → b ≡ unlinked (lookup (is_at (nat_cmp ino)) rest) → (is_unlinked ino s || b) ≡ unlinked (lookup (is_at (nat_cmp ino)) (with_shown_inode s rest))
 unlinked_step ino (Some (SetInode other old)) rest kept b r none h = elim (eqb_tells other ino) [
   | inl same ↦
       let P : ℕ → Type 0 = λ n. list_all (λ y. not (goes (SetInode n old) (shown_by y))) kept ≡ true in

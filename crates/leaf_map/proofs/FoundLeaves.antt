@@ -2,7 +2,7 @@
 use Rattle.std.proofs.Common.{not, List, [], ◌∷◌}
 use Rattle.std.specs.List.{AllByRecursion, list_any}
 use Rattle.media_leaf.specs.LeafNode.{IsLeaf}
-use Rattle.leaf_map.specs.Allowed.{AreReadLeaves, FitsLeaves, IsNodeOf, IsReadLeaf}
+use Rattle.leaf_map.specs.Allowed.{AreReadLeaves, FitsLeaves, IsNodeOfLeaves, IsReadLeaf}
 use Rattle.leaf_map.specs.Kept.{Kept, Placed}
 use Rattle.leaf_map.specs.LeafMap.{IsKeyed, IsLeafMap}
 use Rattle.leaf_map.specs.Parts.{Committed, Parts}
@@ -18,7 +18,7 @@ pairs_of parts [] (c ∷ cs) h = absurd h
 pairs_of parts (x ∷ ks) [] h = absurd h
 pairs_of parts (x ∷ ks) (c ∷ cs) (pair, more) = (pair, pairs_of parts ks cs more)
 
-pub goods : (kept : List Kept) (copies : List Placed) → AllByRecursion IsKeyed kept → AllByRecursion (λ d. IsLeaf d.node × IsNodeOf kept d.node) copies → AllByRecursion IsGood copies
+pub goods : (kept : List Kept) (copies : List Placed) → AllByRecursion IsKeyed kept → AllByRecursion (λ d. IsLeaf d.node × IsNodeOfLeaves kept d.node) copies → AllByRecursion IsGood copies
 goods kept [] k h = tt
 goods kept (d ∷ copies) k (one, more) = ((one.0, node_shown kept d.node k one.1), goods kept copies k more)
 

@@ -10,7 +10,7 @@ use Rattle.index_tree.specs.Order.{leaf_rank}
 use Rattle.fs_model.specs.declared.change.Change.{Change}
 use Rattle.fs_model.specs.declared.change.Change.TheVariants.{SetInode, SetEntry, SetBlock}
 use Rattle.fs_model.specs.Path.{is_same_name}
-use Rattle.leaf_map.specs.Allowed.{FitsLeaves, IsCopied, IsNodeOf, IsOwnNode, IsReadLeaf}
+use Rattle.leaf_map.specs.Allowed.{FitsLeaves, IsNodeCopied, IsNodeOfLeaves, IsOwnNode, IsReadLeaf}
 use Rattle.leaf_map.specs.Kept.{Kept, Placed, kept_at, shown, shown_by}
 use Rattle.leaf_map.specs.LeafMap.{IsKeyed, shows_same}
 use Rattle.leaf_map.specs.Parts.{Committed, Named, Parts, is_shown, own_node}
@@ -30,54 +30,54 @@ itself (Some (SetEntry e)) h = and_from (e.dir == e.dir) (is_same_name e.name e.
 itself s h = absurd (false≢true h)
 
 -- ---- copies
-copied_shown : (ds : List Placed) (n : LeafNode) → AllByRecursion IsGood ds → IsCopied ds n → is_shown (shown n) ≡ true
+copied_shown : (ds : List Placed) (n : LeafNode) → AllByRecursion IsGood ds → IsNodeCopied ds n → is_shown (shown n) ≡ true
 copied_shown [] n g i = absurd i
 copied_shown (d ∷ ds) n g (inl e) = subst (λ (z : LeafNode). is_shown (shown z) ≡ true) (sym e) g.0.1
 copied_shown (d ∷ ds) n g (inr i) = copied_shown ds n g.1 i
 
-pub find_copied : (p : Placed → Bool) (ds : List Placed) (d : Placed) → find p ds ≡ Some d → IsCopied ds d.node
+pub find_copied : (p : Placed → Bool) (ds : List Placed) (d : Placed) → find p ds ≡ Some d → IsNodeCopied ds d.node
 find_copied p [] d f = absurd cc
 find_copied p (e ∷ ds) d f = by (find_copied p ds d) (p e) f
   where
-    by : (find p ds ≡ Some d → IsCopied ds d.node) → (b : Bool) → cond b (Some e) (find p ds) ≡ Some d → IsCopied (e ∷ ds) d.node
+    by : (find p ds ≡ Some d → IsNodeCopied ds d.node) → (b : Bool) → cond b (Some e) (find p ds) ≡ Some d → IsNodeCopied (e ∷ ds) d.node
     by more true g = let same : e ≡ d = cc g in inl (ap (λ (z : Placed). z.node) (sym same))
     by more false g = inr (more g)
 
 -- where no copy has a leaf's key none is of what that key is for
-none_of_key : (l : Leaf) (ds : List Placed) (n : LeafNode) → AllByRecursion IsGood ds → copy_of_key l ds ≡ None → IsCopied ds n → leaf_rank l ≡ rank_shown (shown n) → ⊥
+none_of_key : (l : Leaf) (ds : List Placed) (n : LeafNode) → AllByRecursion IsGood ds → copy_of_key l ds ≡ None → IsNodeCopied ds n → leaf_rank l ≡ rank_shown (shown n) → ⊥
 none_of_key l [] n g f i r = i
 none_of_key l (d ∷ ds) n g f i r = by (λ f i. none_of_key l ds n g.1 f i r) (leaf_rank (kept_at d).leaf == leaf_rank l) refl f i
   where
-    by : (copy_of_key l ds ≡ None → IsCopied ds n → ⊥) → (b : Bool) → (leaf_rank (kept_at d).leaf == leaf_rank l) ≡ b → cond b (Some d) (copy_of_key l ds) ≡ None → IsCopied (d ∷ ds) n → ⊥
+    by : (copy_of_key l ds ≡ None → IsNodeCopied ds n → ⊥) → (b : Bool) → (leaf_rank (kept_at d).leaf == leaf_rank l) ≡ b → cond b (Some d) (copy_of_key l ds) ≡ None → IsNodeCopied (d ∷ ds) n → ⊥
     by more true e f i = absurd cc
     by more false e f (inl same) =
         false≢true (sym e ∙ eq-eqb (leaf_rank (kept_at d).leaf) (leaf_rank l) (rank_is (kept_at d).leaf (shown d.node) (copy_keyed d g.0) ∙ ap (λ (z : LeafNode). rank_shown (shown z)) (sym same) ∙ sym r))
     by more false e f (inr j) = more f j
 
-pub filter_copied : (p : Placed → Bool) (ds : List Placed) (n : LeafNode) → IsCopied (filter p ds) n → IsCopied ds n
+pub filter_copied : (p : Placed → Bool) (ds : List Placed) (n : LeafNode) → IsNodeCopied (filter p ds) n → IsNodeCopied ds n
 filter_copied p [] n i = i
 filter_copied p (e ∷ ds) n i = by (filter_copied p ds n) (p e) i
   where
-    by : (IsCopied (filter p ds) n → IsCopied ds n) → (b : Bool) → IsCopied (cond b (e ∷ filter p ds) (filter p ds)) n → IsCopied (e ∷ ds) n
+    by : (IsNodeCopied (filter p ds) n → IsNodeCopied ds n) → (b : Bool) → IsNodeCopied (cond b (e ∷ filter p ds) (filter p ds)) n → IsNodeCopied (e ∷ ds) n
     by more true (inl same) = inl same
     by more true (inr j) = inr (more j)
     by more false j = inr (more j)
 
-stays_left : (d : Placed) (ds : List Placed) (n : LeafNode) → IsCopied ds n → shows_same (shown d.node) (shown n) ≡ false → IsCopied (left d ds) n
+stays_left : (d : Placed) (ds : List Placed) (n : LeafNode) → IsNodeCopied ds n → shows_same (shown d.node) (shown n) ≡ false → IsNodeCopied (left d ds) n
 stays_left d [] n i apart = i
 stays_left d (e ∷ ds) n i apart = by (stays_left d ds n) (shows_same (shown d.node) (shown e.node)) refl i
   where
-    by : (IsCopied ds n → shows_same (shown d.node) (shown n) ≡ false → IsCopied (left d ds) n) → (b : Bool) → shows_same (shown d.node) (shown e.node) ≡ b → IsCopied (e ∷ ds) n → IsCopied (cond (not b) (e ∷ left d ds) (left d ds)) n
+    by : (IsNodeCopied ds n → shows_same (shown d.node) (shown n) ≡ false → IsNodeCopied (left d ds) n) → (b : Bool) → shows_same (shown d.node) (shown e.node) ≡ b → IsNodeCopied (e ∷ ds) n → IsNodeCopied (cond (not b) (e ∷ left d ds) (left d ds)) n
     by more true f (inl same) = absurd (false≢true (sym apart ∙ subst (λ (z : LeafNode). shows_same (shown d.node) (shown z) ≡ true) (sym same) f))
     by more true f (inr j) = more j apart
     by more false f (inl same) = inl same
     by more false f (inr j) = inr (more j apart)
 
-left_differs : (d : Placed) (ds : List Placed) (n : LeafNode) → IsCopied (left d ds) n → shows_same (shown d.node) (shown n) ≡ false
+left_differs : (d : Placed) (ds : List Placed) (n : LeafNode) → IsNodeCopied (left d ds) n → shows_same (shown d.node) (shown n) ≡ false
 left_differs d [] n i = absurd i
 left_differs d (e ∷ ds) n i = by (left_differs d ds n) (shows_same (shown d.node) (shown e.node)) refl i
   where
-    by : (IsCopied (left d ds) n → shows_same (shown d.node) (shown n) ≡ false) → (b : Bool) → shows_same (shown d.node) (shown e.node) ≡ b → IsCopied (cond (not b) (e ∷ left d ds) (left d ds)) n → shows_same (shown d.node) (shown n) ≡ false
+    by : (IsNodeCopied (left d ds) n → shows_same (shown d.node) (shown n) ≡ false) → (b : Bool) → shows_same (shown d.node) (shown e.node) ≡ b → IsNodeCopied (cond (not b) (e ∷ left d ds) (left d ds)) n → shows_same (shown d.node) (shown n) ≡ false
     by more true f j = more j
     by more false f (inl same) = subst (λ (z : LeafNode). shows_same (shown d.node) (shown z) ≡ false) (sym same) f
     by more false f (inr j) = more j
@@ -91,22 +91,22 @@ record Reading (parts : Parts) (kept : List Kept) (copies : List Placed) (ks : L
   good : AllByRecursion IsGood copies
   keyed : AllByRecursion IsKeyed ks
   pairs : Pairs (Stands parts) ks cs
-  cover : (n : LeafNode) → IsCopied copies n → IsNodeOf ks n
-  known : (n : LeafNode) → IsCopied copies n → IsNodeOf kept n
-  spare : (m n : LeafNode) → IsOwnNode parts.named cs m → IsCopied copies n → shows_same (shown m) (shown n) ≡ false
+  cover : (n : LeafNode) → IsNodeCopied copies n → IsNodeOfLeaves ks n
+  known : (n : LeafNode) → IsNodeCopied copies n → IsNodeOfLeaves kept n
+  spare : (m n : LeafNode) → IsOwnNode parts.named cs m → IsNodeCopied copies n → shows_same (shown m) (shown n) ≡ false
 
 record Swapped (parts : Parts) (y : Kept) (d : Placed) (ks : List Kept) (cs : List Committed) : Type 0 where
   now : List Kept
   keyed : AllByRecursion IsKeyed now
   pairs : Pairs (Stands parts) now cs
-  covers : (n : LeafNode) → (n ≡ y.node) ⊎ IsNodeOf ks n → (n ≡ d.node) ⊎ IsNodeOf now n
+  covers : (n : LeafNode) → (n ≡ y.node) ⊎ IsNodeOfLeaves ks n → (n ≡ d.node) ⊎ IsNodeOfLeaves now n
 
 own_is : (named : List Named) (c : Committed) (found : Placed) → own_node named c ≡ Some found → option_map (λ (p : Placed). p.node) (own_node named c) ≡ Some found.node
 own_is named c found e = ap (λ o. option_map (λ (p : Placed). p.node) o) e
 
 -- a leaf takes the place of the one whose copy was given to it
 swap : (parts : Parts) (y : Kept) (d : Placed) (ks : List Kept) (cs : List Committed) → IsKeyed y → leaf_rank y.leaf ≡ rank_shown (shown d.node) → is_shown (shown d.node) ≡ true → AllByRecursion IsKeyed ks → Pairs (Stands parts) ks cs
-    → ((m : LeafNode) → IsOwnNode parts.named cs m → shows_same (shown m) (shown d.node) ≡ false) → IsNodeOf ks d.node → Swapped parts y d ks cs
+    → ((m : LeafNode) → IsOwnNode parts.named cs m → shows_same (shown m) (shown d.node) ≡ false) → IsNodeOfLeaves ks d.node → Swapped parts y d ks cs
 swap parts y d [] cs ky r s k ps spare i = absurd i
 swap parts y d (z ∷ ks) [] ky r s k ps spare i = absurd ps
 swap parts y d (z ∷ ks) (c ∷ cs) ky r s k (pair, more) spare (inl e) = record {
@@ -142,16 +142,16 @@ swap parts y d (z ∷ ks) (c ∷ cs) ky r s k (pair, more) spare (inr j) =
       ];
     }
   where
-    put : (n : LeafNode) (now : List Kept) → (n ≡ d.node) ⊎ IsNodeOf now n → (n ≡ d.node) ⊎ IsNodeOf (z ∷ now) n
+    put : (n : LeafNode) (now : List Kept) → (n ≡ d.node) ⊎ IsNodeOfLeaves now n → (n ≡ d.node) ⊎ IsNodeOfLeaves (z ∷ now) n
     put n now (inl a) = inl a
     put n now (inr h) = inr (inr h)
 
 -- ---- leaf by leaf
 abbrev Has : Parts → List Placed → List Committed → LeafNode → Type 0
-Has parts copies cs n = IsOwnNode parts.named cs n ⊎ IsCopied copies n
+Has parts copies cs n = IsOwnNode parts.named cs n ⊎ IsNodeCopied copies n
 
 abbrev Finds : Parts → List Kept → List Placed → List Committed → List Kept → Type 0
-Finds parts kept copies cs found = (ks : List Kept) → Reading parts kept copies ks cs → (n : LeafNode) → Has parts copies cs n → IsNodeOf found n
+Finds parts kept copies cs found = (ks : List Kept) → Reading parts kept copies ks cs → (n : LeafNode) → Has parts copies cs n → IsNodeOfLeaves found n
 
 no_leaf : (parts : Parts) (kept : List Kept) (copies : List Placed) → Finds parts kept copies [] []
 no_leaf parts kept copies [] h n (inl o) = absurd o
@@ -174,7 +174,7 @@ own_step parts kept copies cs c m found e more (y ∷ ks) h n has = elim has [
     same : m.node ≡ y.node
     same = h.pairs.0.own m e
 
-    covered : (k : LeafNode) → IsCopied copies k → IsNodeOf (y ∷ ks) k → IsNodeOf ks k
+    covered : (k : LeafNode) → IsNodeCopied copies k → IsNodeOfLeaves (y ∷ ks) k → IsNodeOfLeaves ks k
     covered k i (inl a) = absurd (false≢true (sym (h.spare m.node k (inl (own_is parts.named c m e)) i) ∙ subst (λ (w : LeafNode). shows_same (shown w) (shown k) ≡ true) (a ∙ sym same) (itself (shown k) (copied_shown copies k h.good i))))
     covered k i (inr j) = j
 
@@ -188,7 +188,7 @@ own_step parts kept copies cs c m found e more (y ∷ ks) h n has = elim has [
       spare = λ a b o i. h.spare a b (inr o) i;
     }
 
-copy_step : (parts : Parts) (kept : List Kept) (copies : List Placed) (cs : List Committed) (c : Committed) (d : Placed) (found : List Kept) → ((m n : LeafNode) → IsNodeOf kept m → IsNodeOf kept n → shows_same (shown m) (shown n) ≡ true → m ≡ n)
+copy_step : (parts : Parts) (kept : List Kept) (copies : List Placed) (cs : List Committed) (c : Committed) (d : Placed) (found : List Kept) → ((m n : LeafNode) → IsNodeOfLeaves kept m → IsNodeOfLeaves kept n → shows_same (shown m) (shown n) ≡ true → m ≡ n)
     → own_node parts.named c ≡ None → copy_of_key c.leaf copies ≡ Some d → Finds parts kept (left d copies) cs found → Finds parts kept copies (c ∷ cs) (kept_at d ∷ found)
 copy_step parts kept copies cs c d found one e f more [] h n has = absurd h.pairs
 copy_step parts kept copies cs c d found one e f more (y ∷ ks) h n has = elim has [
@@ -205,7 +205,7 @@ copy_step parts kept copies cs c d found one e f more (y ∷ ks) h n has = elim 
     never : nothing ≡ Some n → ⊥
     never g = absurd cc
 
-    there : IsCopied copies d.node
+    there : IsNodeCopied copies d.node
     there = find_copied (λ c'. leaf_rank (kept_at c').leaf == leaf_rank c.leaf) copies d f
 
     good : IsGood d
@@ -214,7 +214,7 @@ copy_step parts kept copies cs c d found one e f more (y ∷ ks) h n has = elim 
     rank : leaf_rank y.leaf ≡ rank_shown (shown d.node)
     rank = sym h.pairs.0.place ∙ sym (copy_place c.leaf copies d f) ∙ rank_is (kept_at d).leaf (shown d.node) (copy_keyed d good)
 
-    by : IsNodeOf (y ∷ ks) d.node → Swapped parts y d ks cs
+    by : IsNodeOfLeaves (y ∷ ks) d.node → Swapped parts y d ks cs
     by (inl a) = record {
       now = ks;
       keyed = h.keyed.1;
@@ -229,11 +229,11 @@ copy_step parts kept copies cs c d found one e f more (y ∷ ks) h n has = elim 
     swapped : Swapped parts y d ks cs
     swapped = by (h.cover d.node there)
 
-    covered : (k : LeafNode) → IsCopied (left d copies) k → (k ≡ d.node) ⊎ IsNodeOf swapped.now k → IsNodeOf swapped.now k
+    covered : (k : LeafNode) → IsNodeCopied (left d copies) k → (k ≡ d.node) ⊎ IsNodeOfLeaves swapped.now k → IsNodeOfLeaves swapped.now k
     covered k i (inl a) = absurd (false≢true (sym (left_differs d copies k i) ∙ subst (λ (w : LeafNode). shows_same (shown d.node) (shown w) ≡ true) (sym a) (itself (shown d.node) good.1)))
     covered k i (inr j) = j
 
-    back : (k : LeafNode) → IsCopied (left d copies) k → IsCopied copies k
+    back : (k : LeafNode) → IsNodeCopied (left d copies) k → IsNodeCopied copies k
     back k i = filter_copied (λ c'. not (shows_same (shown d.node) (shown c'.node))) copies k i
 
     less : Reading parts kept (left d copies) swapped.now cs
@@ -246,7 +246,7 @@ copy_step parts kept copies cs c d found one e f more (y ∷ ks) h n has = elim 
       spare = λ a b o i. h.spare a b (inr o) (back b i);
     }
 
-    given : IsCopied copies n → (b : Bool) → shows_same (shown d.node) (shown n) ≡ b → IsNodeOf (kept_at d ∷ found) n
+    given : IsNodeCopied copies n → (b : Bool) → shows_same (shown d.node) (shown n) ≡ b → IsNodeOfLeaves (kept_at d ∷ found) n
     given i true g = inl (sym (one d.node n (h.known d.node there) (h.known n i) g))
     given i false g = inr (more swapped.now less n (inr (stays_left d copies n i g)))
 
@@ -267,7 +267,7 @@ pass_step parts kept copies cs c found e f more (y ∷ ks) h n has = elim has [
     never : nothing ≡ Some n → ⊥
     never g = absurd cc
 
-    covered : (k : LeafNode) → IsCopied copies k → IsNodeOf (y ∷ ks) k → IsNodeOf ks k
+    covered : (k : LeafNode) → IsNodeCopied copies k → IsNodeOfLeaves (y ∷ ks) k → IsNodeOfLeaves ks k
     covered k i (inl a) = absurd (none_of_key c.leaf copies k h.good f i (h.pairs.0.place ∙ rank_is y.leaf (shown_by y) h.keyed.0 ∙ ap (λ (w : LeafNode). rank_shown (shown w)) (sym a)))
     covered k i (inr j) = j
 
@@ -281,7 +281,7 @@ pass_step parts kept copies cs c found e f more (y ∷ ks) h n has = elim has [
       spare = λ a b o i. h.spare a b (inr o) i;
     }
 
-finds : (parts : Parts) (kept : List Kept) → ((m n : LeafNode) → IsNodeOf kept m → IsNodeOf kept n → shows_same (shown m) (shown n) ≡ true → m ≡ n) → Walk parts.named (IsReadLeaf parts) (λ copies ks cs found. Finds parts kept copies cs found)
+finds : (parts : Parts) (kept : List Kept) → ((m n : LeafNode) → IsNodeOfLeaves kept m → IsNodeOfLeaves kept n → shows_same (shown m) (shown n) ≡ true → m ≡ n) → Walk parts.named (IsReadLeaf parts) (λ copies ks cs found. Finds parts kept copies cs found)
 finds parts kept one = record {
   done = λ copies. no_leaf parts kept copies;
   own = λ copies ks cs x c m pair e more. own_step parts kept copies cs c m (found_leaves parts.named copies cs) e more;
@@ -297,20 +297,20 @@ stand_all parts [] (c ∷ cs) ps = absurd ps
 stand_all parts (x ∷ ks) [] ps = absurd ps
 stand_all parts (x ∷ ks) (c ∷ cs) (pair, more) = (record { place = ap leaf_rank pair.leaf; own = pair.own }, stand_all parts ks cs more)
 
-own_of_kept : (parts : Parts) (ks : List Kept) (cs : List Committed) (n : LeafNode) → Pairs (IsReadLeaf parts) ks cs → IsOwnNode parts.named cs n → IsNodeOf ks n
+own_of_kept : (parts : Parts) (ks : List Kept) (cs : List Committed) (n : LeafNode) → Pairs (IsReadLeaf parts) ks cs → IsOwnNode parts.named cs n → IsNodeOfLeaves ks n
 own_of_kept parts [] [] n ps o = o
 own_of_kept parts [] (c ∷ cs) n ps o = absurd ps
 own_of_kept parts (x ∷ ks) [] n ps o = absurd ps
 own_of_kept parts (x ∷ ks) (c ∷ cs) n (pair, more) (inl a) = by (own_node parts.named c) refl a
   where
-    by : (o : Option Placed) → own_node parts.named c ≡ o → option_map (λ (p : Placed). p.node) o ≡ Some n → IsNodeOf (x ∷ ks) n
+    by : (o : Option Placed) → own_node parts.named c ≡ o → option_map (λ (p : Placed). p.node) o ≡ Some n → IsNodeOfLeaves (x ∷ ks) n
     by None e g = absurd cc
     by (Some m) e g = let same : m.node ≡ n = cc in inl (sym same ∙ pair.own m e)
 own_of_kept parts (x ∷ ks) (c ∷ cs) n (pair, more) (inr o) = inr (own_of_kept parts ks cs n more o)
 
-copy_of_kept : (kept : List Kept) (ds : List Placed) (n : LeafNode) → AllByRecursion (λ d. IsLeaf d.node × IsNodeOf kept d.node) ds → IsCopied ds n → IsNodeOf kept n
+copy_of_kept : (kept : List Kept) (ds : List Placed) (n : LeafNode) → AllByRecursion (λ d. IsLeaf d.node × IsNodeOfLeaves kept d.node) ds → IsNodeCopied ds n → IsNodeOfLeaves kept n
 copy_of_kept kept [] n a i = absurd i
-copy_of_kept kept (d ∷ ds) n a (inl e) = subst (λ (z : LeafNode). IsNodeOf kept z) (sym e) a.0.1
+copy_of_kept kept (d ∷ ds) n a (inl e) = subst (λ (z : LeafNode). IsNodeOfLeaves kept z) (sym e) a.0.1
 copy_of_kept kept (d ∷ ds) n a (inr i) = copy_of_kept kept ds n a.1 i
 
 -- no own node shows what an unneeded copy would
@@ -334,14 +334,14 @@ no_original named (c ∷ cs) d m none o = by (λ t o. no_original named cs d m t
         subst (λ (z : LeafNode). shows_same (shown z) (shown d.node) ≡ false) same here
     by more f e (inr j) = more both.1 j
 
-spare_apart : (named : List Named) (cs : List Committed) (ds : List Placed) (m n : LeafNode) → IsOwnNode named cs m → IsCopied (filter (λ c. not (list_any (is_original named c) cs)) ds) n → shows_same (shown m) (shown n) ≡ false
+spare_apart : (named : List Named) (cs : List Committed) (ds : List Placed) (m n : LeafNode) → IsOwnNode named cs m → IsNodeCopied (filter (λ c. not (list_any (is_original named c) cs)) ds) n → shows_same (shown m) (shown n) ≡ false
 spare_apart named cs [] m n o i = absurd i
 spare_apart named cs (d ∷ ds) m n o i = by (spare_apart named cs ds m n o) (list_any (is_original named d) cs) refl i
   where
     rest : List Placed
     rest = filter (λ c. not (list_any (is_original named c) cs)) ds
 
-    by : (IsCopied rest n → shows_same (shown m) (shown n) ≡ false) → (b : Bool) → list_any (is_original named d) cs ≡ b → IsCopied (cond (not b) (d ∷ rest) rest) n → shows_same (shown m) (shown n) ≡ false
+    by : (IsNodeCopied rest n → shows_same (shown m) (shown n) ≡ false) → (b : Bool) → list_any (is_original named d) cs ≡ b → IsNodeCopied (cond (not b) (d ∷ rest) rest) n → shows_same (shown m) (shown n) ≡ false
     by more true e j = more j
     by more false e (inl same) = subst (λ (z : LeafNode). shows_same (shown m) (shown z) ≡ false) (sym same) (no_original named cs d m e o)
     by more false e (inr j) = more j
@@ -360,8 +360,8 @@ original_is named (c ∷ cs) d h = by (original_is named cs d) (own_node named c
     by more None e true g t = let no = rw e at g in absurd (false≢true no)
     by more (Some own) e true g t = let same : shows_same (shown own.node) (shown d.node) ≡ true = rw e at g in (own.node, inl (own_is named c own e), same)
 
-spare_or_own : (named : List Named) (cs : List Committed) (ds : List Placed) (n : LeafNode) → IsCopied ds n
-    → IsCopied (filter (λ c. not (list_any (is_original named c) cs)) ds) n ⊎ ((m : LeafNode) × IsOwnNode named cs m × (shows_same (shown m) (shown n) ≡ true))
+spare_or_own : (named : List Named) (cs : List Committed) (ds : List Placed) (n : LeafNode) → IsNodeCopied ds n
+    → IsNodeCopied (filter (λ c. not (list_any (is_original named c) cs)) ds) n ⊎ ((m : LeafNode) × IsOwnNode named cs m × (shows_same (shown m) (shown n) ≡ true))
 spare_or_own named cs [] n i = absurd i
 spare_or_own named cs (d ∷ ds) n i = by (spare_or_own named cs ds n) (list_any (is_original named d) cs) refl i
   where
@@ -371,24 +371,24 @@ spare_or_own named cs (d ∷ ds) n i = by (spare_or_own named cs ds n) (list_any
     Own : LeafNode → Type 0
     Own k = (m : LeafNode) × IsOwnNode named cs m × (shows_same (shown m) (shown k) ≡ true)
 
-    push : IsCopied rest n ⊎ Own n → IsCopied (d ∷ rest) n ⊎ Own n
+    push : IsNodeCopied rest n ⊎ Own n → IsNodeCopied (d ∷ rest) n ⊎ Own n
     push (inl j) = inl (inr j)
     push (inr o) = inr o
 
-    by : (IsCopied ds n → IsCopied rest n ⊎ Own n) → (b : Bool) → list_any (is_original named d) cs ≡ b → IsCopied (d ∷ ds) n → IsCopied (cond (not b) (d ∷ rest) rest) n ⊎ Own n
+    by : (IsNodeCopied ds n → IsNodeCopied rest n ⊎ Own n) → (b : Bool) → list_any (is_original named d) cs ≡ b → IsNodeCopied (d ∷ ds) n → IsNodeCopied (cond (not b) (d ∷ rest) rest) n ⊎ Own n
     by more true e (inl same) = inr (subst Own (sym same) (original_is named cs d e))
     by more true e (inr j) = more j
     by more false e (inl same) = inl (inl same)
     by more false e (inr j) = push (more j)
 
 -- the copies that are needed
-pub spare_known : (parts : Parts) (kept : List Kept) → FitsLeaves parts kept → (n : LeafNode) → IsCopied (spare_copies parts) n → IsNodeOf kept n
+pub spare_known : (parts : Parts) (kept : List Kept) → FitsLeaves parts kept → (n : LeafNode) → IsNodeCopied (spare_copies parts) n → IsNodeOfLeaves kept n
 spare_known parts kept fits n i = copy_of_kept kept parts.copies n fits.copies (filter_copied (λ c. not (list_any (is_original parts.named c) parts.committed)) parts.copies n i)
 
 pub spare_good : (parts : Parts) (kept : List Kept) → FitsLeaves parts kept → AllByRecursion IsGood (spare_copies parts)
 spare_good parts kept fits = filter_all IsGood (λ c. not (list_any (is_original parts.named c) parts.committed)) parts.copies (goods kept parts.copies fits.leaves.keyed fits.copies)
 
-pub found_nodes : (parts : Parts) (kept : List Kept) → FitsLeaves parts kept → (n : LeafNode) → IsOwnNode parts.named parts.committed n ⊎ IsCopied parts.copies n → IsNodeOf (leaves_found parts) n
+pub found_nodes : (parts : Parts) (kept : List Kept) → FitsLeaves parts kept → (n : LeafNode) → IsOwnNode parts.named parts.committed n ⊎ IsNodeCopied parts.copies n → IsNodeOfLeaves (leaves_found parts) n
 found_nodes parts kept fits n has = walk (finds parts kept one) (spare_copies parts) kept parts.committed pairs kept reads n (elim has [
   | inl o ↦ inl o
   | inr i ↦ elim (spare_or_own parts.named parts.committed parts.copies n i) [
@@ -397,13 +397,13 @@ found_nodes parts kept fits n has = walk (finds parts kept one) (spare_copies pa
   ]
 ])
   where
-    one : (m n : LeafNode) → IsNodeOf kept m → IsNodeOf kept n → shows_same (shown m) (shown n) ≡ true → m ≡ n
+    one : (m n : LeafNode) → IsNodeOfLeaves kept m → IsNodeOfLeaves kept n → shows_same (shown m) (shown n) ≡ true → m ≡ n
     one m n i j e = one_node kept m n fits.leaves.keyed fits.leaves.apart i j e
 
     pairs : Pairs (IsReadLeaf parts) kept parts.committed
     pairs = pairs_of parts kept parts.committed fits.read
 
-    own : (k : LeafNode) → IsCopied parts.copies k → (m : LeafNode) × IsOwnNode parts.named parts.committed m × (shows_same (shown m) (shown k) ≡ true) → IsOwnNode parts.named parts.committed k
+    own : (k : LeafNode) → IsNodeCopied parts.copies k → (m : LeafNode) × IsOwnNode parts.named parts.committed m × (shows_same (shown m) (shown k) ≡ true) → IsOwnNode parts.named parts.committed k
     own k i (m, o, s) = subst (λ (z : LeafNode). IsOwnNode parts.named parts.committed z) (one m k (own_of_kept parts kept parts.committed m pairs o) (copy_of_kept kept parts.copies k fits.copies i) s) o
 
     reads : Reading parts kept (spare_copies parts) kept parts.committed

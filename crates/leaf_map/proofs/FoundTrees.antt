@@ -21,14 +21,14 @@ use Rattle.fs_model.specs.Path.{is_same_name}
 use Rattle.fs_model.specs.Recovery.{Numbered}
 use Rattle.fs_laws.specs.Maps.{IsOrder, apart, key_cases, set_here, set_other}
 use Rattle.fs_laws.specs.Orders.{named, numbers, pairs}
-use Rattle.leaf_map.specs.Allowed.{AgreeBut, FitsTree, IsCopied, IsNodeOf, IsOwnNode, IsReadLeaf, IsSafe, AreForgotten, IsForgotten, IsOfForgotten, IsTouched, IsTouchedIn, LosesNothing, in_turn}
+use Rattle.leaf_map.specs.Allowed.{AgreeBut, FitsTree, IsNodeCopied, IsNodeOfLeaves, IsOwnNode, IsReadLeaf, IsSafe, AreForgotten, IsForgotten, IsOfForgotten, IsTouched, IsTouchedIn, LosesNothing, in_turn}
 use Rattle.leaf_map.specs.Kept.{Kept, Placed, kept_at, shown, shown_by}
 use Rattle.leaf_map.specs.LastChange.{last_made, makes_block, makes_entry, makes_inode}
 use Rattle.leaf_map.specs.LeafMap.{HasKeyOf, IsKeyed, IsLeafMap, are_apart, shows_same}
 use Rattle.leaf_map.specs.Parts.{Committed, Parts, is_shown}
 use Rattle.leaf_map.specs.RankLaws.{rank_is, rank_shown, is_entry, same_thing}
 use Rattle.leaf_map.specs.Recovered.{committed_highest, found_leaves, leaves_found, listed_left, spare_copies, stand_in}
-use Rattle.leaf_map.specs.Shown.{blocks_of, entries_of, inodes_of, tree_of, with_block, with_entry, with_inode}
+use Rattle.leaf_map.specs.Shown.{blocks_shown_by, entries_of, inodes_of, tree_of, with_shown_block, with_entry, with_shown_inode}
 use Rattle.leaf_map.proofs.FoundKeys.{IsGood, has_no_link, stand_linkless, copy_keyed, copy_place, filter_all, find_all, gone_entry, stand_keyed, stand_plain}
 use Rattle.leaf_map.proofs.FoundLeaves.{found_map, pairs_of}
 use Rattle.leaf_map.proofs.FoundNodes.{filter_copied, find_copied, found_nodes, itself, spare_good, spare_known}
@@ -57,7 +57,7 @@ record Kind {K X : Type 0} (cmp : K → K → Ordering) (with : Option Change �
 
 -- what a leaf shows is found
 shown_found : {K X : Type 0} {cmp : K → K → Ordering} {with : Option Change → List (K × X) → List (K × X)} {all : List Kept → List (K × X)} {key : Option Change → Option (K × X)} → Kind cmp with all key
-    → (kept : List Kept) (n : LeafNode) (k : K) (v : X) → are_apart kept ≡ true → IsNodeOf kept n → key (shown n) ≡ Some (k, v) → lookup (is_at (cmp k)) (all kept) ≡ Some v
+    → (kept : List Kept) (n : LeafNode) (k : K) (v : X) → are_apart kept ≡ true → IsNodeOfLeaves kept n → key (shown n) ≡ Some (k, v) → lookup (is_at (cmp k)) (all kept) ≡ Some v
 shown_found kind [] n k v a i e = absurd i
 shown_found {K} {X} {cmp} {with} {all} {key} kind (x ∷ kept) n k v a (inl same) e =
     let s : key (shown_by x) ≡ Some (k, v) = ap (λ (z : LeafNode). key (shown z)) (sym same) ∙ e in
@@ -71,7 +71,7 @@ shown_found {K} {X} {cmp} {with} {all} {key} kind (x ∷ kept) n k v a (inr j) e
 
 -- a node that shows something at a key
 abbrev Shower : {K X : Type 0} → (Option Change → Option (K × X)) → List Kept → K → X → Type 0
-Shower key kept k v = (n : LeafNode) × IsNodeOf kept n × (key (shown n) ≡ Some (k, v))
+Shower key kept k v = (n : LeafNode) × IsNodeOfLeaves kept n × (key (shown n) ≡ Some (k, v))
 
 -- and what is found a leaf shows
 found_shown : {K X : Type 0} {cmp : K → K → Ordering} {with : Option Change → List (K × X) → List (K × X)} {all : List Kept → List (K × X)} {key : Option Change → Option (K × X)} → Kind cmp with all key
@@ -111,8 +111,8 @@ Near cmp all found kept q Touched = (lookup (is_at (cmp q)) (all found) ≡ look
 
 near : {K X : Type 0} {cmp : K → K → Ordering} {with : Option Change → List (K × X) → List (K × X)} {all : List Kept → List (K × X)} {key : Option Change → Option (K × X)} → Kind cmp with all key
     → (found kept : List Kept) (q : K) (Touched : Type 0) → are_apart found ≡ true → are_apart kept ≡ true
-    → ((n : LeafNode) (v : X) → IsNodeOf kept n → key (shown n) ≡ Some (q, v) → IsNodeOf found n ⊎ Touched)
-    → ((n : LeafNode) (v : X) → IsNodeOf found n → key (shown n) ≡ Some (q, v) → (w : X) × Shower key kept q w)
+    → ((n : LeafNode) (v : X) → IsNodeOfLeaves kept n → key (shown n) ≡ Some (q, v) → IsNodeOfLeaves found n ⊎ Touched)
+    → ((n : LeafNode) (v : X) → IsNodeOfLeaves found n → key (shown n) ≡ Some (q, v) → (w : X) × Shower key kept q w)
     → Near cmp all found kept q Touched
 near {K} {X} {cmp} {with} {all} {key} kind found kept q Touched a b safe seen = by (lookup (is_at (cmp q)) (all kept)) refl (lookup (is_at (cmp q)) (all found)) refl
   where
@@ -155,11 +155,11 @@ found_first {K} {X} cmp order k q v rest e = subst (λ (z : K). lookup (is_at (c
 found_past : {K X : Type 0} (cmp : K → K → Ordering) → IsOrder cmp → (q k : K) (v : X) (rest : List (K × X)) → (q ≡ k → ⊥) → lookup (is_at (cmp q)) ((k, v) ∷ rest) ≡ lookup (is_at (cmp q)) rest
 found_past cmp order q k v rest differs = rw (apart cmp order q k differs) refl
 
-inode_here : (s : Option Change) (k : ℕ) (v : Inode) (rest : Inodes) → inode_key s ≡ Some (k, v) → lookup (is_at (nat_cmp k)) (with_inode s rest) ≡ Some v
+inode_here : (s : Option Change) (k : ℕ) (v : Inode) (rest : Inodes) → inode_key s ≡ Some (k, v) → lookup (is_at (nat_cmp k)) (with_shown_inode s rest) ≡ Some v
 inode_here (Some (SetInode ino inode)) k v rest e = let p = key_parts ino inode k v e in found_first nat_cmp numbers k ino inode rest p.0 ∙ ap (λ (z : Inode). Some z) p.1
 inode_here s k v rest e = absurd cc
 
-inode_past : (s : Option Change) (q : ℕ) (rest : Inodes) → ((v : Inode) → inode_key s ≡ Some (q, v) → ⊥) → lookup (is_at (nat_cmp q)) (with_inode s rest) ≡ lookup (is_at (nat_cmp q)) rest
+inode_past : (s : Option Change) (q : ℕ) (rest : Inodes) → ((v : Inode) → inode_key s ≡ Some (q, v) → ⊥) → lookup (is_at (nat_cmp q)) (with_shown_inode s rest) ≡ lookup (is_at (nat_cmp q)) rest
 inode_past (Some (SetInode ino inode)) q rest d = found_past nat_cmp numbers q ino inode rest (λ e. d inode (ap (λ (z : ℕ). Some (z, inode)) (sym e)))
 inode_past s q rest d = refl
 
@@ -173,7 +173,7 @@ inode_told (Some (SetInode a x)) (Some (SetInode b y)) k v e h = (y, ap (λ (z :
 inode_told (Some (SetInode a x)) t k v e h = absurd (false≢true h)
 inode_told s t k v e h = absurd cc
 
-inode_kind : Kind nat_cmp with_inode inodes_of inode_key
+inode_kind : Kind nat_cmp with_shown_inode inodes_of inode_key
 inode_kind = record { order = numbers; none = refl; step = λ x kept. refl; here = inode_here; past = inode_past; same = inode_same; told = inode_told }
 
 abbrev place : ℕ → ℕ → ℕ × ℕ
@@ -184,11 +184,11 @@ place_is a n b m h =
     let p = and_parts (b == a) (m == n) h in
     ap (λ (z : ℕ). place z m) (eqb-true b a p.0) ∙ ap (place a) (eqb-true m n p.1)
 
-block_here : (s : Option Change) (k : ℕ × ℕ) (v : List ℕ) (rest : Blocks) → block_key s ≡ Some (k, v) → lookup (is_at (pair_cmp k)) (with_block s rest) ≡ Some v
+block_here : (s : Option Change) (k : ℕ × ℕ) (v : List ℕ) (rest : Blocks) → block_key s ≡ Some (k, v) → lookup (is_at (pair_cmp k)) (with_shown_block s rest) ≡ Some v
 block_here (Some (SetBlock ino number bytes)) k v rest e = let p = key_parts (place ino number) bytes k v e in found_first pair_cmp pairs k (place ino number) bytes rest p.0 ∙ ap (λ (z : List ℕ). Some z) p.1
 block_here s k v rest e = absurd cc
 
-block_past : (s : Option Change) (q : ℕ × ℕ) (rest : Blocks) → ((v : List ℕ) → block_key s ≡ Some (q, v) → ⊥) → lookup (is_at (pair_cmp q)) (with_block s rest) ≡ lookup (is_at (pair_cmp q)) rest
+block_past : (s : Option Change) (q : ℕ × ℕ) (rest : Blocks) → ((v : List ℕ) → block_key s ≡ Some (q, v) → ⊥) → lookup (is_at (pair_cmp q)) (with_shown_block s rest) ≡ lookup (is_at (pair_cmp q)) rest
 block_past (Some (SetBlock ino number bytes)) q rest d = found_past pair_cmp pairs q (place ino number) bytes rest (λ e. d bytes (ap (λ (z : ℕ × ℕ). Some (z, bytes)) (sym e)))
 block_past s q rest d = refl
 
@@ -204,7 +204,7 @@ block_told (Some (SetBlock a n x)) (Some (SetBlock b m y)) k v e h = (y, ap (λ 
 block_told (Some (SetBlock a n x)) t k v e h = absurd (false≢true h)
 block_told s t k v e h = absurd cc
 
-block_kind : Kind pair_cmp with_block blocks_of block_key
+block_kind : Kind pair_cmp with_shown_block blocks_shown_by block_key
 block_kind = record { order = pairs; none = refl; step = λ x kept. refl; here = block_here; past = block_past; same = block_same; told = block_told }
 
 entry_here : (s : Option Change) (k : ℕ × List ℕ) (v : Entry) (rest : Entries) → entry_key_of s ≡ Some (k, v) → lookup (is_at (name_cmp k)) (with_entry s rest) ≡ Some v
@@ -251,10 +251,10 @@ plain_same x c m l k t =
 
 -- one of these leaves shows the same as a node
 abbrev Seen : List Kept → LeafNode → Type 0
-Seen kept n = (m : LeafNode) × IsNodeOf kept m × (shows_same (shown m) (shown n) ≡ true)
+Seen kept n = (m : LeafNode) × IsNodeOfLeaves kept m × (shows_same (shown m) (shown n) ≡ true)
 
 abbrev AllSeen : List Kept → List Placed → List Kept → List Kept → Type 0
-AllSeen kept copies ks found = AllByRecursion IsKeyed ks → ((n : LeafNode) → IsCopied copies n → IsNodeOf kept n) → ((n : LeafNode) → IsNodeOf ks n → IsNodeOf kept n) → (n : LeafNode) → IsNodeOf found n → Seen kept n
+AllSeen kept copies ks found = AllByRecursion IsKeyed ks → ((n : LeafNode) → IsNodeCopied copies n → IsNodeOfLeaves kept n) → ((n : LeafNode) → IsNodeOfLeaves ks n → IsNodeOfLeaves kept n) → (n : LeafNode) → IsNodeOfLeaves found n → Seen kept n
 
 seen_walk : (parts : Parts) (kept : List Kept) → AllByRecursion IsKeyed kept → Walk parts.named (IsReadLeaf parts) (λ copies ks cs found. AllSeen kept copies ks found)
 seen_walk parts kept keyed = record {
@@ -264,7 +264,7 @@ seen_walk parts kept keyed = record {
     | inr j ↦ more k.1 known (λ n j. sub n (inr j)) n j
   ];
   copy = λ copies ks cs x c d pair e f more k known sub n i. elim i [
-    | inl same ↦ self n (known n (subst (λ (z : LeafNode). IsCopied copies z) (sym same) (find_copied (λ c'. leaf_rank (kept_at c').leaf == leaf_rank c.leaf) copies d f)))
+    | inl same ↦ self n (known n (subst (λ (z : LeafNode). IsNodeCopied copies z) (sym same) (find_copied (λ c'. leaf_rank (kept_at c').leaf == leaf_rank c.leaf) copies d f)))
     | inr j ↦ more k.1 (λ n j. known n (filter_copied (λ c'. not (shows_same (shown d.node) (shown c'.node))) copies n j)) (λ n j. sub n (inr j)) n j
   ];
   stand = λ copies ks cs x c m pair e f t more k known sub n i. elim i [
@@ -274,7 +274,7 @@ seen_walk parts kept keyed = record {
   gone = λ copies ks cs x c pair e f t more k known sub n i. more k.1 known (λ n j. sub n (inr j)) n i;
 }
   where
-    self : (n : LeafNode) → IsNodeOf kept n → Seen kept n
+    self : (n : LeafNode) → IsNodeOfLeaves kept n → Seen kept n
     self n i = (n, i, itself (shown n) (node_shown kept n keyed i))
 
 -- ---- what is there
@@ -284,11 +284,11 @@ StandsIn m = (k : Key) × (stand_in k ≡ Some m)
 
 -- in place of a node that is no name's stands itself, or what stands for it
 abbrev There : List Kept → LeafNode → Type 0
-There found n = (m : LeafNode) × IsNodeOf found m × (shows_same (shown n) (shown m) ≡ true) × ((m ≡ n) ⊎ StandsIn m)
+There found n = (m : LeafNode) × IsNodeOfLeaves found m × (shows_same (shown n) (shown m) ≡ true) × ((m ≡ n) ⊎ StandsIn m)
 
 abbrev AllThere : List Kept → List Placed → List Kept → List Kept → Type 0
-AllThere kept copies ks found = AllByRecursion IsKeyed ks → AllByRecursion IsGood copies → ((n : LeafNode) → IsCopied copies n → IsNodeOf kept n) → ((n : LeafNode) → IsNodeOf ks n → IsNodeOf kept n)
-    → (n : LeafNode) → IsNodeOf ks n → is_entry (shown n) ≡ false → There found n
+AllThere kept copies ks found = AllByRecursion IsKeyed ks → AllByRecursion IsGood copies → ((n : LeafNode) → IsNodeCopied copies n → IsNodeOfLeaves kept n) → ((n : LeafNode) → IsNodeOfLeaves ks n → IsNodeOfLeaves kept n)
+    → (n : LeafNode) → IsNodeOfLeaves ks n → is_entry (shown n) ≡ false → There found n
 
 there_walk : (parts : Parts) (kept : List Kept) → AllByRecursion IsKeyed kept → are_apart kept ≡ true → Walk parts.named (IsReadLeaf parts) (λ copies ks cs found. AllThere kept copies ks found)
 there_walk parts kept keyed apart = record {
@@ -332,10 +332,10 @@ unlinked_shown (Some (SetInode ino node)) q v h e = subst (λ (z : Inode). (z.nl
 unlinked_shown s q v h e = absurd cc
 
 -- ---- all of it
-safe_node : (parts : Parts) (tree : Tree) (changes : List Change) (ks : List Kept) (n : LeafNode) → AllByRecursion (IsSafe parts tree changes) ks → IsNodeOf ks n
-    → (IsOwnNode parts.named parts.committed n ⊎ IsCopied parts.copies n) ⊎ (IsTouchedIn tree changes (shown n) ⊎ IsOfForgotten parts.listed changes tree (shown n))
+safe_node : (parts : Parts) (tree : Tree) (changes : List Change) (ks : List Kept) (n : LeafNode) → AllByRecursion (IsSafe parts tree changes) ks → IsNodeOfLeaves ks n
+    → (IsOwnNode parts.named parts.committed n ⊎ IsNodeCopied parts.copies n) ⊎ (IsTouchedIn tree changes (shown n) ⊎ IsOfForgotten parts.listed changes tree (shown n))
 safe_node parts tree changes [] n safe i = absurd i
-safe_node parts tree changes (x ∷ ks) n safe (inl e) = subst (λ (z : LeafNode). (IsOwnNode parts.named parts.committed z ⊎ IsCopied parts.copies z) ⊎ (IsTouchedIn tree changes (shown z) ⊎ IsOfForgotten parts.listed changes tree (shown z))) (sym e) safe.0
+safe_node parts tree changes (x ∷ ks) n safe (inl e) = subst (λ (z : LeafNode). (IsOwnNode parts.named parts.committed z ⊎ IsNodeCopied parts.copies z) ⊎ (IsTouchedIn tree changes (shown z) ⊎ IsOfForgotten parts.listed changes tree (shown z))) (sym e) safe.0
 safe_node parts tree changes (x ∷ ks) n safe (inr i) = safe_node parts tree changes ks n safe.1 i
 
 touched_inode : (tree : Tree) (changes : List Change) (s : Option Change) (q : ℕ) (v : Inode) → inode_key s ≡ Some (q, v) → IsTouchedIn tree changes s → IsTouched (last_made (makes_inode q) tree changes)
@@ -399,7 +399,7 @@ fits_tree parts kept changes fits = record {
     found : IsLeafMap F
     found = found_map parts kept fits.read
 
-    safe : {T : Type 0} (n : LeafNode) → IsNodeOf kept n → (IsTouchedIn tree (in_turn changes) (shown n) → T) → (IsOfForgotten parts.listed (in_turn changes) tree (shown n) → T) → IsNodeOf F n ⊎ T
+    safe : {T : Type 0} (n : LeafNode) → IsNodeOfLeaves kept n → (IsTouchedIn tree (in_turn changes) (shown n) → T) → (IsOfForgotten parts.listed (in_turn changes) tree (shown n) → T) → IsNodeOfLeaves F n ⊎ T
     safe n i to out = elim (safe_node parts tree (in_turn changes) kept n fits.safe i) [
       | inl has ↦ inl (found_nodes parts kept fits.read n has)
       | inr t ↦ elim t [
@@ -409,7 +409,7 @@ fits_tree parts kept changes fits = record {
     ]
 
     -- in place of an inode or a block
-    in_place : (n : LeafNode) → IsNodeOf kept n → is_entry (shown n) ≡ false → There F n
+    in_place : (n : LeafNode) → IsNodeOfLeaves kept n → is_entry (shown n) ≡ false → There F n
     in_place n i plain = walk (there_walk parts kept fits.read.leaves.keyed fits.read.leaves.apart) (spare_copies parts) kept parts.committed (pairs_of parts kept parts.committed fits.read.read)
         fits.read.leaves.keyed (spare_good parts kept fits.read) (spare_known parts kept fits.read) (λ n i. i) n i plain
 
@@ -429,11 +429,11 @@ fits_tree parts kept changes fits = record {
         by None e = absurd (false≢true (sym (ap unlinked e) ∙ f.nameless))
         by (Some v) e = unlinked_there q v (sym (ap unlinked e) ∙ f.nameless) (found_shown inode_kind kept q v e)
 
-    seen : (n : LeafNode) → IsNodeOf F n → Seen kept n
+    seen : (n : LeafNode) → IsNodeOfLeaves F n → Seen kept n
     seen n i = walk (seen_walk parts kept fits.read.leaves.keyed) (spare_copies parts) kept parts.committed (pairs_of parts kept parts.committed fits.read.read) fits.read.leaves.keyed (spare_known parts kept fits.read) (λ n i. i) n i
 
     look : {K X : Type 0} {cmp : K → K → Ordering} {with : Option Change → List (K × X) → List (K × X)} {all : List Kept → List (K × X)} {key : Option Change → Option (K × X)} → Kind cmp with all key
-        → (q : K) (n : LeafNode) (v : X) → IsNodeOf F n → key (shown n) ≡ Some (q, v) → (w : X) × Shower key kept q w
+        → (q : K) (n : LeafNode) (v : X) → IsNodeOfLeaves F n → key (shown n) ≡ Some (q, v) → (w : X) × Shower key kept q w
     look {K} {X} {cmp} {with} {all} {key} kind q n v j e = by (seen n j)
       where
         by : Seen kept n → (w : X) × Shower key kept q w

@@ -18,12 +18,12 @@ use Rattle.leaf_map.specs.After.{goes, is_gone, is_inode, has_inode, put_leaf}
 use Rattle.leaf_map.specs.Kept.{Kept, shown_by}
 use Rattle.leaf_map.specs.LeafMap.{IsKeyed}
 use Rattle.leaf_map.specs.RankLaws.{rank_is, rank_shown}
-use Rattle.leaf_map.specs.Shown.{inodes_of, with_inode}
+use Rattle.leaf_map.specs.Shown.{inodes_of, with_shown_inode}
 use Rattle.leaf_map.proofs.Maps.{insert_front, less_is, greater_is, equal_is}
 use Rattle.leaf_map.proofs.Ranks.{leaves, are_from, ordered_all}
 use Rattle.leaf_map.proofs.Steps.{Reads, put_here, put_past, put_before}
 
-pub read_inodes : Reads with_inode inodes_of
+pub read_inodes : Reads with_shown_inode inodes_of
 read_inodes = record { step = λ x kept. refl }
 
 lower : (a b : ℕ) → (a == b) ≡ false → a * 2 ^ 33 ≤ b * 2 ^ 33 → a < b
@@ -32,22 +32,22 @@ lower a b h l = grind (arith, nat_tests)
 pub higher : (a b : ℕ) → (a == b) ≡ false → b * 2 ^ 33 ≤ a * 2 ^ 33 → b < a
 higher a b h l = grind (arith, nat_tests)
 
-inode_here : (ino : ℕ) (inode : Inode) (s : Option Change) (rest : Inodes) → goes (SetInode ino inode) s ≡ true → (ino, inode) ∷ rest ≡ insert_entry nat_cmp (with_inode s rest) ino inode
+inode_here : (ino : ℕ) (inode : Inode) (s : Option Change) (rest : Inodes) → goes (SetInode ino inode) s ≡ true → (ino, inode) ∷ rest ≡ insert_entry nat_cmp (with_shown_inode s rest) ino inode
 inode_here ino inode (Some (SetInode other old)) rest h =
     let same = eqb-true other ino h in rw (equal_is ino other (sym same)) (ap (λ (n : ℕ). (n, inode) ∷ rest) (sym same))
 inode_here ino inode s rest h = absurd (false≢true h)
 
 inode_past : (ino : ℕ) (inode : Inode) (s : Option Change) (rest : Inodes) → goes (SetInode ino inode) s ≡ false → rank_shown s ≤ ino * 2 ^ 33
-    → with_inode s (insert_entry nat_cmp rest ino inode) ≡ insert_entry nat_cmp (with_inode s rest) ino inode
+    → with_shown_inode s (insert_entry nat_cmp rest ino inode) ≡ insert_entry nat_cmp (with_shown_inode s rest) ino inode
 inode_past ino inode (Some (SetInode other old)) rest h l = rw (greater_is ino other (lower other ino h l)) refl
 inode_past ino inode s rest h l = refl
 
 inode_before : (ino : ℕ) (inode : Inode) (s : Option Change) (rest : Inodes) → goes (SetInode ino inode) s ≡ false → ino * 2 ^ 33 ≤ rank_shown s → list_all (λ e. is_lt (nat_cmp ino e.0)) rest ≡ true
-    → (ino, inode) ∷ with_inode s rest ≡ insert_entry nat_cmp (with_inode s rest) ino inode
+    → (ino, inode) ∷ with_shown_inode s rest ≡ insert_entry nat_cmp (with_shown_inode s rest) ino inode
 inode_before ino inode (Some (SetInode other old)) rest h l above = rw (less_is ino other (higher other ino h l)) refl
 inode_before ino inode s rest h l above = sym (insert_front nat_cmp rest ino inode above)
 
-above_step : (ino : ℕ) (s : Option Change) (rest : Inodes) → ino * 2 ^ 33 < rank_shown s → list_all (λ e. is_lt (nat_cmp ino e.0)) rest ≡ true → list_all (λ e. is_lt (nat_cmp ino e.0)) (with_inode s rest) ≡ true
+above_step : (ino : ℕ) (s : Option Change) (rest : Inodes) → ino * 2 ^ 33 < rank_shown s → list_all (λ e. is_lt (nat_cmp ino e.0)) rest ≡ true → list_all (λ e. is_lt (nat_cmp ino e.0)) (with_shown_inode s rest) ≡ true
 above_step ino (Some (SetInode other old)) rest l h = let less : ino < other = omega (arith, l) in rw (less_is ino other less) h
 above_step ino s rest l h = h
 
@@ -63,7 +63,7 @@ inodes_above ino low (x ∷ kept) k l h =
 -- an inode that is put is set
 pub put_inodes : (ino : ℕ) (inode : Inode) (new : Kept) (low : ℕ) (kept : List Kept) → shown_by new ≡ Some (SetInode ino inode) → leaf_rank new.leaf ≡ ino * 2 ^ 33 → AllByRecursion IsKeyed kept → ordered_from low (leaves kept) ≡ true
     → inodes_of (put_leaf (is_gone (SetInode ino inode)) new kept) ≡ insert_entry nat_cmp (inodes_of kept) ino inode
-put_inodes ino inode new low [] s r k o = ap (λ z. with_inode z []) s
+put_inodes ino inode new low [] s r k o = ap (λ z. with_shown_inode z []) s
 put_inodes ino inode new low (x ∷ kept) s r k o =
     let p = and_parts (nat_le low (leaf_rank x.leaf)) (ordered_from (leaf_rank x.leaf) (leaves kept)) o in
     by p.1 (put_inodes ino inode new (leaf_rank x.leaf) kept s r k.1 p.1) (goes (SetInode ino inode) (shown_by x)) refl (nat_le (leaf_rank x.leaf) (leaf_rank new.leaf)) refl
@@ -76,19 +76,19 @@ put_inodes ino inode new low (x ∷ kept) s r k o =
 
     by : ordered_from (leaf_rank x.leaf) (leaves kept) ≡ true → inodes_of (put_leaf old new kept) ≡ insert_entry nat_cmp (inodes_of kept) ino inode → (b : Bool) → goes (SetInode ino inode) (shown_by x) ≡ b → (l : Bool) → nat_le (leaf_rank x.leaf) (leaf_rank new.leaf) ≡ l
         → inodes_of (put_leaf old new (x ∷ kept)) ≡ insert_entry nat_cmp (inodes_of (x ∷ kept)) ino inode
-    by rest more true g l e = ap inodes_of (put_here old new x kept g) ∙ ap (λ z. with_inode z (inodes_of kept)) s ∙ inode_here ino inode (shown_by x) (inodes_of kept) g
+    by rest more true g l e = ap inodes_of (put_here old new x kept g) ∙ ap (λ z. with_shown_inode z (inodes_of kept)) s ∙ inode_here ino inode (shown_by x) (inodes_of kept) g
     by rest more false g true e =
         let le = leb-true (leaf_rank x.leaf) (leaf_rank new.leaf) e in
         let here = rank in
-        ap inodes_of (put_past old new x kept g e) ∙ ap (with_inode (shown_by x)) more ∙ inode_past ino inode (shown_by x) (inodes_of kept) g (omega (arith, le, r, here))
+        ap inodes_of (put_past old new x kept g e) ∙ ap (with_shown_inode (shown_by x)) more ∙ inode_past ino inode (shown_by x) (inodes_of kept) g (omega (arith, le, r, here))
     by rest more false g false e =
         let gt = leb-false (leaf_rank x.leaf) (leaf_rank new.leaf) e in
         let here = rank in
         let above = inodes_above ino (leaf_rank x.leaf) kept k.1 (omega (arith, gt, r)) (ordered_all (leaf_rank x.leaf) (leaf_rank x.leaf) kept (omega arith) rest) in
-        ap inodes_of (put_before old new x kept g e) ∙ ap (λ z. with_inode z (inodes_of (x ∷ kept))) s ∙ inode_before ino inode (shown_by x) (inodes_of kept) g (omega (arith, gt, r, here)) above
+        ap inodes_of (put_before old new x kept g e) ∙ ap (λ z. with_shown_inode z (inodes_of (x ∷ kept))) s ∙ inode_before ino inode (shown_by x) (inodes_of kept) g (omega (arith, gt, r, here)) above
 
 -- whether leaves have an inode is whether their tree has it
-has_step : (ino : ℕ) (s : Option Change) (rest : Inodes) (b : Bool) → b ≡ is_some (lookup (is_at (nat_cmp ino)) rest) → (is_inode ino s || b) ≡ is_some (lookup (is_at (nat_cmp ino)) (with_inode s rest))
+has_step : (ino : ℕ) (s : Option Change) (rest : Inodes) (b : Bool) → b ≡ is_some (lookup (is_at (nat_cmp ino)) rest) → (is_inode ino s || b) ≡ is_some (lookup (is_at (nat_cmp ino)) (with_shown_inode s rest))
 has_step ino (Some (SetInode other old)) rest b h = elim (eqb_tells other ino) [
   | inl same ↦ rw (same.0, equal_is ino other (sym same.1)) refl
   | inr differ ↦ rw (differ.0, apart nat_cmp numbers ino other (λ e. differ.1 (sym e))) h

@@ -8,7 +8,7 @@ use Rattle.fs_laws.specs.Forgotten.{apply_in_order}
 use Rattle.leaf_map.specs.Allowed.{FitsTree, in_turn}
 use Rattle.leaf_map.specs.Kept.{Kept}
 use Rattle.leaf_map.specs.Parts.{Parts}
-use Rattle.leaf_map.specs.Recovered.{committed_highest, in_order, leaves_after, leaves_found, leaves_left, listed_left, moved, recovered_of, tree_found}
+use Rattle.leaf_map.specs.Recovered.{committed_highest, nodes_in_order, leaves_after, leaves_found, leaves_left, listed_left, moved_to_its_copy, recovered_of, tree_found}
 use Rattle.leaf_map.specs.Shown.{tree_of}
 use Rattle.leaf_map.proofs.Agrees.{agree_after}
 use Rattle.leaf_map.proofs.Copies.{moved_node, same_tree}
@@ -22,12 +22,12 @@ found_is parts committed changes fits =
     let before = committed_highest parts in
     let now = (recovered_of parts).highest in
     let read = fits.nodes in
-    let after : List Kept = leaves_after kept (in_order parts.nodes) in
+    let after : List Kept = leaves_after kept (nodes_in_order parts.nodes) in
     let start = leaves_sorted kept before fits.leaves in
-    let all = tree_replayed (in_order parts.nodes) _ kept before read fits.leaves in
+    let all = tree_replayed (nodes_in_order parts.nodes) _ kept before read fits.leaves in
     let close = agree_after (listed_left parts) (in_turn changes) (tree_of kept before) committed start fits.sorted fits.shows in
-    let is = map_replayed (in_order parts.nodes) _ kept read fits.leaves in
-    same_tree (moved parts (leaves_left parts)) (leaves_left parts) now (moved_node parts (leaves_left parts))
+    let is = map_replayed (nodes_in_order parts.nodes) _ kept read fits.leaves in
+    same_tree (moved_to_its_copy parts (leaves_left parts)) (leaves_left parts) now (moved_node parts (leaves_left parts))
     ∙ orphans_tree (listed_left parts) after now is
     ∙ ap (λ t. fold forget t (listed_left parts)) all
     ∙ forgets_close (listed_left parts) (apply (tree_of kept before) (in_turn changes)) (apply committed (in_turn changes)) (apply_in_order (in_turn changes) (tree_of kept before) start) (apply_in_order (in_turn changes) committed fits.sorted) close

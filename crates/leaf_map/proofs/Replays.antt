@@ -16,7 +16,7 @@ use Rattle.leaf_map.specs.After.{kept_after}
 use Rattle.leaf_map.specs.Allowed.{AreRead}
 use Rattle.leaf_map.specs.Kept.{Kept, Placed, node_key}
 use Rattle.leaf_map.specs.LeafMap.{IsLeafMap}
-use Rattle.leaf_map.specs.Recovered.{highest_key, in_order, leaves_after, placed_node}
+use Rattle.leaf_map.specs.Recovered.{highest_key, nodes_in_order, leaves_after, placed_node}
 use Rattle.leaf_map.specs.Shown.{tree_of}
 use Rattle.leaf_map.proofs.Changes.{map_read, tree_read}
 
@@ -88,5 +88,5 @@ read_fold [] (c ∷ changes) sorted ordered r s = absurd r
 read_fold (x ∷ nodes) [] sorted ordered r s = absurd r
 read_fold (x ∷ nodes) (c ∷ changes) sorted ordered (leaf, number, read, more) s = read_fold nodes changes (placed_node sorted x) (placed ordered c) more (read_placed sorted ordered x c s leaf number read)
 
-pub read_in_order : (nodes : List Placed) (changes : Numbered) → AreRead nodes changes → AreRead (in_order nodes) (by_number changes)
+pub read_in_order : (nodes : List Placed) (changes : Numbered) → AreRead nodes changes → AreRead (nodes_in_order nodes) (by_number changes)
 read_in_order nodes changes r = read_fold nodes changes [] [] r tt

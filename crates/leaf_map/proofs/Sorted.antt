@@ -16,14 +16,14 @@ use Rattle.leaf_map.specs.After.{goes}
 use Rattle.leaf_map.specs.Kept.{Kept, shown_by}
 use Rattle.leaf_map.specs.LeafMap.{IsKeyed, IsLeafMap, are_apart, shows_same}
 use Rattle.leaf_map.specs.RankLaws.{rank_is, rank_shown}
-use Rattle.leaf_map.specs.Shown.{blocks_of, inodes_of, tree_of, with_block, with_inode}
+use Rattle.leaf_map.specs.Shown.{blocks_shown_by, inodes_of, tree_of, with_shown_block, with_shown_inode}
 use Rattle.leaf_map.proofs.Blocks.{HasNumber, block_above_step, has_number}
 use Rattle.leaf_map.proofs.Inodes.{higher}
 use Rattle.leaf_map.proofs.Maps.{less_is}
 use Rattle.leaf_map.proofs.Names.{entries_ascend}
 use Rattle.leaf_map.proofs.Ranks.{are_from, leaves, ordered_all}
 
-behind_step : (ino : ℕ) (old : Inode) (s : Option Change) (rest : Inodes) → not (goes (SetInode ino old) s) ≡ true → ino * 2 ^ 33 ≤ rank_shown s → list_all (λ e. is_lt (nat_cmp ino e.0)) rest ≡ true → list_all (λ e. is_lt (nat_cmp ino e.0)) (with_inode s rest) ≡ true
+behind_step : (ino : ℕ) (old : Inode) (s : Option Change) (rest : Inodes) → not (goes (SetInode ino old) s) ≡ true → ino * 2 ^ 33 ≤ rank_shown s → list_all (λ e. is_lt (nat_cmp ino e.0)) rest ≡ true → list_all (λ e. is_lt (nat_cmp ino e.0)) (with_shown_inode s rest) ≡ true
 behind_step ino old (Some (SetInode other inode)) rest n l h = by (goes (SetInode ino old) (Some (SetInode other inode))) refl n
   where
     by : (b : Bool) → goes (SetInode ino old) (Some (SetInode other inode)) ≡ b → not b ≡ true → list_all (λ e. is_lt (nat_cmp ino e.0)) ((other, inode) ∷ rest) ≡ true
@@ -41,7 +41,7 @@ inodes_behind ino low old (x ∷ kept) k l h n =
     behind_step ino old (shown_by x) (inodes_of kept) q.0 (omega (arith, l, here, rank)) (inodes_behind ino low old kept k.1 l p.1 q.1)
 
 inodes_step : (leaf : Kept) (s : Option Change) (kept : List Kept) → leaf_rank leaf.leaf ≡ rank_shown s → AllByRecursion IsKeyed kept → are_from (leaf_rank leaf.leaf) kept ≡ true → list_all (λ y. not (shows_same s (shown_by y))) kept ≡ true
-    → ascends nat_cmp (keys_of (inodes_of kept)) ≡ true → ascends nat_cmp (keys_of (with_inode s (inodes_of kept))) ≡ true
+    → ascends nat_cmp (keys_of (inodes_of kept)) ≡ true → ascends nat_cmp (keys_of (with_shown_inode s (inodes_of kept))) ≡ true
 inodes_step leaf (Some (SetInode ino inode)) kept r k f n h = ascends_from nat_cmp (inodes_of kept) (ino, inode) (inodes_behind ino (leaf_rank leaf.leaf) inode kept k (omega (arith, r)) f n) h
 inodes_step leaf s kept r k f n h = h
 
@@ -53,21 +53,21 @@ inodes_ascend low (x ∷ kept) k o n =
     inodes_step x (shown_by x) kept (rank_is x.leaf (shown_by x) k.0) k.1 (ordered_all (leaf_rank x.leaf) (leaf_rank x.leaf) kept (omega arith) q.1) p.0 (inodes_ascend (leaf_rank x.leaf) kept k.1 q.1 p.1)
 
 blocks_behind : (ino number low : ℕ) (bytes : List ℕ) (kept : List Kept) → number < 2 ^ 29 → AllByRecursion IsKeyed kept → ino * 2 ^ 33 + (2 ^ 29 + number) ≤ low → are_from low kept ≡ true → list_all (λ y. not (goes (SetBlock ino number bytes) (shown_by y))) kept ≡ true
-    → list_all (λ e. is_lt (pair_cmp (ino, number) e.0)) (blocks_of kept) ≡ true
+    → list_all (λ e. is_lt (pair_cmp (ino, number) e.0)) (blocks_shown_by kept) ≡ true
 blocks_behind ino number low bytes [] small k l h n = refl
 blocks_behind ino number low bytes (x ∷ kept) small k l h n =
     let p = and_parts (nat_le low (leaf_rank x.leaf)) (are_from low kept) h in
     let q = and_parts (not (goes (SetBlock ino number bytes) (shown_by x))) (list_all (λ y. not (goes (SetBlock ino number bytes) (shown_by y))) kept) n in
     let here = leb-true low (leaf_rank x.leaf) p.0 in
     let rank = rank_is x.leaf (shown_by x) k.0 in
-    block_above_step ino number bytes (shown_by x) (blocks_of kept) small (has_number x (shown_by x) k.0) q.0 (omega (arith, l, here, rank)) (blocks_behind ino number low bytes kept small k.1 l p.1 q.1)
+    block_above_step ino number bytes (shown_by x) (blocks_shown_by kept) small (has_number x (shown_by x) k.0) q.0 (omega (arith, l, here, rank)) (blocks_behind ino number low bytes kept small k.1 l p.1 q.1)
 
 blocks_step : (leaf : Kept) (s : Option Change) (kept : List Kept) → HasNumber s → leaf_rank leaf.leaf ≡ rank_shown s → AllByRecursion IsKeyed kept → are_from (leaf_rank leaf.leaf) kept ≡ true → list_all (λ y. not (shows_same s (shown_by y))) kept ≡ true
-    → ascends pair_cmp (keys_of (blocks_of kept)) ≡ true → ascends pair_cmp (keys_of (with_block s (blocks_of kept))) ≡ true
-blocks_step leaf (Some (SetBlock ino number bytes)) kept small r k f n h = ascends_from pair_cmp (blocks_of kept) ((ino, number), bytes) (blocks_behind ino number (leaf_rank leaf.leaf) bytes kept small k (omega (arith, r)) f n) h
+    → ascends pair_cmp (keys_of (blocks_shown_by kept)) ≡ true → ascends pair_cmp (keys_of (with_shown_block s (blocks_shown_by kept))) ≡ true
+blocks_step leaf (Some (SetBlock ino number bytes)) kept small r k f n h = ascends_from pair_cmp (blocks_shown_by kept) ((ino, number), bytes) (blocks_behind ino number (leaf_rank leaf.leaf) bytes kept small k (omega (arith, r)) f n) h
 blocks_step leaf s kept small r k f n h = h
 
-blocks_ascend : (low : ℕ) (kept : List Kept) → AllByRecursion IsKeyed kept → ordered_from low (leaves kept) ≡ true → are_apart kept ≡ true → ascends pair_cmp (keys_of (blocks_of kept)) ≡ true
+blocks_ascend : (low : ℕ) (kept : List Kept) → AllByRecursion IsKeyed kept → ordered_from low (leaves kept) ≡ true → are_apart kept ≡ true → ascends pair_cmp (keys_of (blocks_shown_by kept)) ≡ true
 blocks_ascend low [] k o n = refl
 blocks_ascend low (x ∷ kept) k o n =
     let q = and_parts (nat_le low (leaf_rank x.leaf)) (ordered_from (leaf_rank x.leaf) (leaves kept)) o in

@@ -7,7 +7,7 @@ use Rattle.index_tree.specs.declared.leaf.Leaf.{Leaf}
 use Rattle.fs_model.specs.declared.change.Change.{Change}
 use Rattle.fs_model.specs.declared.change.Change.TheVariants.{SetInode, SetEntry, SetBlock}
 use Rattle.leaf_map.specs.After.{is_set}
-use Rattle.leaf_map.specs.Allowed.{IsNodeOf}
+use Rattle.leaf_map.specs.Allowed.{IsNodeOfLeaves}
 use Rattle.leaf_map.specs.Kept.{Kept, shown, shown_by}
 use Rattle.leaf_map.specs.LeafMap.{HasKeyOf, IsKeyed, are_apart, shows_same}
 use Rattle.leaf_map.specs.Parts.{is_shown}
@@ -47,12 +47,12 @@ keyed_shown l (Some (SetEntry e)) h = refl
 keyed_shown l s h = absurd h
 
 -- what all leaves pass their nodes pass
-pub at_node : (p : Option Change → Bool) (kept : List Kept) (n : LeafNode) → list_all (λ y. p (shown_by y)) kept ≡ true → IsNodeOf kept n → p (shown n) ≡ true
+pub at_node : (p : Option Change → Bool) (kept : List Kept) (n : LeafNode) → list_all (λ y. p (shown_by y)) kept ≡ true → IsNodeOfLeaves kept n → p (shown n) ≡ true
 at_node p [] n h i = absurd i
 at_node p (x ∷ kept) n h (inl e) = subst (λ z. p (shown z) ≡ true) (sym e) (and_parts (p (shown_by x)) (list_all (λ y. p (shown_by y)) kept) h).0
 at_node p (x ∷ kept) n h (inr i) = at_node p kept n (and_parts (p (shown_by x)) (list_all (λ y. p (shown_by y)) kept) h).1 i
 
-pub node_shown : (kept : List Kept) (n : LeafNode) → AllByRecursion IsKeyed kept → IsNodeOf kept n → is_shown (shown n) ≡ true
+pub node_shown : (kept : List Kept) (n : LeafNode) → AllByRecursion IsKeyed kept → IsNodeOfLeaves kept n → is_shown (shown n) ≡ true
 node_shown [] n k i = absurd i
 node_shown (x ∷ kept) n k (inl e) = subst (λ z. is_shown (shown z) ≡ true) (sym e) (keyed_shown x.leaf (shown_by x) k.0)
 node_shown (x ∷ kept) n k (inr i) = node_shown kept n k.1 i
@@ -62,7 +62,7 @@ not_true true h = absurd (false≢true h)
 not_true false h = refl
 
 -- of leaves of which none shows what another does one node alone shows it
-pub one_node : (kept : List Kept) (m n : LeafNode) → AllByRecursion IsKeyed kept → are_apart kept ≡ true → IsNodeOf kept m → IsNodeOf kept n → shows_same (shown m) (shown n) ≡ true → m ≡ n
+pub one_node : (kept : List Kept) (m n : LeafNode) → AllByRecursion IsKeyed kept → are_apart kept ≡ true → IsNodeOfLeaves kept m → IsNodeOfLeaves kept n → shows_same (shown m) (shown n) ≡ true → m ≡ n
 one_node [] m n k a i j e = absurd i
 one_node (x ∷ kept) m n k a (inl i) (inl j) e = i ∙ sym j
 one_node (x ∷ kept) m n k a (inl i) (inr j) e =

@@ -5,7 +5,7 @@ use Rattle.media_leaf.specs.LeafNode.{LeafNode}
 use Rattle.leaf_map.specs.Kept.{Kept, Placed, kept_at, shown}
 use Rattle.leaf_map.specs.LeafMap.{shows_same}
 use Rattle.leaf_map.specs.Parts.{Committed, Named, own_node}
-use Rattle.leaf_map.specs.Recovered.{copies_left, copy_of_key, found_leaves, leaf_at, stand_in}
+use Rattle.leaf_map.specs.Recovered.{copies_left, copy_of_key, found_leaves, leaf_found_for, stand_in}
 
 -- the copies but for those of what a copy shows
 abbrev pub left : Placed → List Placed → List Placed
@@ -42,14 +42,14 @@ walk w copies [] (c ∷ cs) h = absurd h
 walk w copies (x ∷ ks) [] h = absurd h
 walk {named} {Pair} {P} w copies (x ∷ ks) (c ∷ cs) (pair, more) = by (λ copies. walk w copies ks cs more) (own_node named c) refl
   where
-    by_stand : P copies ks cs (found_leaves named copies cs) → own_node named c ≡ None → copy_of_key c.leaf copies ≡ None → (m : Option LeafNode) → stand_in c.leaf.key ≡ m → P copies (x ∷ ks) (c ∷ cs) (leaf_at copies c None ++ found_leaves named (copies_left copies c None) cs)
+    by_stand : P copies ks cs (found_leaves named copies cs) → own_node named c ≡ None → copy_of_key c.leaf copies ≡ None → (m : Option LeafNode) → stand_in c.leaf.key ≡ m → P copies (x ∷ ks) (c ∷ cs) (leaf_found_for copies c None ++ found_leaves named (copies_left copies c None) cs)
     by_stand rest e f (Some m) g = rw (f, g) (w.stand copies ks cs x c m pair e f g rest)
     by_stand rest e f None g = rw (f, g) (w.gone copies ks cs x c pair e f g rest)
 
-    by_copy : ((copies : List Placed) → P copies ks cs (found_leaves named copies cs)) → own_node named c ≡ None → (d : Option Placed) → copy_of_key c.leaf copies ≡ d → P copies (x ∷ ks) (c ∷ cs) (leaf_at copies c None ++ found_leaves named (copies_left copies c None) cs)
+    by_copy : ((copies : List Placed) → P copies ks cs (found_leaves named copies cs)) → own_node named c ≡ None → (d : Option Placed) → copy_of_key c.leaf copies ≡ d → P copies (x ∷ ks) (c ∷ cs) (leaf_found_for copies c None ++ found_leaves named (copies_left copies c None) cs)
     by_copy rest e (Some d) f = rw f (w.copy copies ks cs x c d pair e f (rest (left d copies)))
     by_copy rest e None f = by_stand (rest copies) e f (stand_in c.leaf.key) refl
 
-    by : ((copies : List Placed) → P copies ks cs (found_leaves named copies cs)) → (o : Option Placed) → own_node named c ≡ o → P copies (x ∷ ks) (c ∷ cs) (leaf_at copies c o ++ found_leaves named (copies_left copies c o) cs)
+    by : ((copies : List Placed) → P copies ks cs (found_leaves named copies cs)) → (o : Option Placed) → own_node named c ≡ o → P copies (x ∷ ks) (c ∷ cs) (leaf_found_for copies c o ++ found_leaves named (copies_left copies c o) cs)
     by rest (Some n) e = w.own copies ks cs x c n pair e (rest copies)
     by rest None e = by_copy rest e (copy_of_key c.leaf copies) refl

@@ -79,9 +79,9 @@ abbrev pub kept_after : List Kept → Placed → List Kept
 kept_after kept new = read (change_of new.node) new kept
 
 -- a node carries a change: it shows what is set, is the node of what goes, or is an inode's without links
-abbrev pub Carries : Change → LeafNode → Type 0
-Carries (DropInode ino) node = change_of node ≡ Some (DropInode ino)
-Carries change node = shown node ≡ Some change
+abbrev pub ShowsChange : Change → LeafNode → Type 0
+ShowsChange (DropInode ino) node = change_of node ≡ Some (DropInode ino)
+ShowsChange change node = shown node ≡ Some change
 
 -- the bytes that leaves take
 abbrev pub used_by : List Kept → ℕ

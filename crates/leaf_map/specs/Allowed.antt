@@ -17,7 +17,7 @@ use Rattle.leaf_map.specs.Kept.{Kept, Placed, shown_by}
 use Rattle.leaf_map.specs.LastChange.{Made, last_made, makes_block, makes_entry, makes_inode}
 use Rattle.leaf_map.specs.LeafMap.{IsLeafMap}
 use Rattle.leaf_map.specs.Parts.{Committed, Named, Parts, own_node, shows_nothing}
-use Rattle.leaf_map.specs.Recovered.{committed_highest, in_order, leaves_found, listed_left}
+use Rattle.leaf_map.specs.Recovered.{committed_highest, nodes_in_order, leaves_found, listed_left}
 use Rattle.leaf_map.specs.Shown.{tree_of}
 
 -- these nodes are nodes of the grammar with the numbers of these changes, and carry what recovery makes of them
@@ -60,7 +60,7 @@ in_turn changes = map (λ c. as_replayed c.1) (by_number changes)
 
 -- What was read fits a committed tree and changes: the nodes carry the changes, both in order of number, the leaves that were found show that tree but for what the changes touch and for listed inodes that go, and what has no name at last is listed and goes.
 pub record FitsTree (parts : Parts) (committed : Tree) (changes : Numbered) : Type 0 where
-  pub nodes : AreRead (in_order parts.nodes) (by_number changes)
+  pub nodes : AreRead (nodes_in_order parts.nodes) (by_number changes)
   pub leaves : IsLeafMap (leaves_found parts)
   pub sorted : IsInOrder committed
   pub shows : AgreeBut (listed_left parts) (in_turn changes) (tree_of (leaves_found parts) (committed_highest parts)) committed
@@ -75,9 +75,9 @@ AreOriginals named (x ∷ kept) (c ∷ committed) =
     (found : Placed) × (own_node named c ≡ Some found) × (record { leaf = c.leaf; sqnum = found.sqnum; node = found.node } ≡ x) × AreOriginals named kept committed
 
 -- a node is that of one of these leaves
-abbrev pub IsNodeOf : List Kept → LeafNode → Type 0
-IsNodeOf [] node = ⊥
-IsNodeOf (x ∷ kept) node = (node ≡ x.node) ⊎ IsNodeOf kept node
+abbrev pub IsNodeOfLeaves : List Kept → LeafNode → Type 0
+IsNodeOfLeaves [] node = ⊥
+IsNodeOfLeaves (x ∷ kept) node = (node ≡ x.node) ⊎ IsNodeOfLeaves kept node
 
 -- a leaf as it was read: where it has an own node, that is the leaf's node; and no node of its key and length stands at its place that shows nothing
 pub record IsReadLeaf (parts : Parts) (x : Kept) (c : Committed) : Type 0 where
@@ -96,7 +96,7 @@ AreReadLeaves parts (x ∷ kept) (c ∷ committed) = IsReadLeaf parts x c × Are
 pub record FitsLeaves (parts : Parts) (kept : List Kept) : Type 0 where
   pub leaves : IsLeafMap kept
   pub read : AreReadLeaves parts kept parts.committed
-  pub copies : AllByRecursion (λ d. IsLeaf d.node × IsNodeOf kept d.node) parts.copies
+  pub copies : AllByRecursion (λ d. IsLeaf d.node × IsNodeOfLeaves kept d.node) parts.copies
 
 -- a node is the own node of one of these committed leaves
 abbrev pub IsOwnNode : List Named → List Committed → LeafNode → Type 0
@@ -104,9 +104,9 @@ IsOwnNode named [] node = ⊥
 IsOwnNode named (c ∷ committed) node = (option_map (λ (found : Placed). found.node) (own_node named c) ≡ Some node) ⊎ IsOwnNode named committed node
 
 -- a node is one of these copies
-abbrev pub IsCopied : List Placed → LeafNode → Type 0
-IsCopied [] node = ⊥
-IsCopied (d ∷ copies) node = (node ≡ d.node) ⊎ IsCopied copies node
+abbrev pub IsNodeCopied : List Placed → LeafNode → Type 0
+IsNodeCopied [] node = ⊥
+IsNodeCopied (d ∷ copies) node = (node ≡ d.node) ⊎ IsNodeCopied copies node
 
 -- these changes of a tree touch what a leaf shows
 abbrev pub IsTouchedIn : Tree → List Change → Option Change → Type 0
@@ -129,11 +129,11 @@ IsOfForgotten listed changes tree shown = ⊥
 -- A committed leaf isn't missed: its node stands at its place still, or a copy of it was read, or changes touch what it shows, or it is of a listed inode that goes.
 abbrev pub IsSafe : Parts → Tree → List Change → Kept → Type 0
 IsSafe parts tree changes x =
-    (IsOwnNode parts.named parts.committed x.node ⊎ IsCopied parts.copies x.node) ⊎ (IsTouchedIn tree changes (shown_by x) ⊎ IsOfForgotten parts.listed changes tree (shown_by x))
+    (IsOwnNode parts.named parts.committed x.node ⊎ IsNodeCopied parts.copies x.node) ⊎ (IsTouchedIn tree changes (shown_by x) ⊎ IsOfForgotten parts.listed changes tree (shown_by x))
 
 -- What was read of committed leaves and of changes loses nothing: no leaf is missed, the nodes carry the changes, both in order of number, and what has no name at last is listed.
 pub record LosesNothing (parts : Parts) (kept : List Kept) (changes : Numbered) : Type 0 where
   pub read : FitsLeaves parts kept
-  pub nodes : AreRead (in_order parts.nodes) (by_number changes)
+  pub nodes : AreRead (nodes_in_order parts.nodes) (by_number changes)
   pub safe : AllByRecursion (IsSafe parts (tree_of kept (committed_highest parts)) (in_turn changes)) kept
   pub listed : (q : ℕ) → is_nameless (apply (tree_of kept (committed_highest parts)) (in_turn changes)) q ≡ true → list_any (λ ino. q == ino) parts.listed ≡ true

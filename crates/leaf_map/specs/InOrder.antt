@@ -5,7 +5,7 @@ use Rattle.std.proofs.Common.{◌⊎◌, inl, inr, refl, ap, sym, ◌∙◌, sub
 use Rattle.std.proofs.lemmas.Bool.{cases_Bool, false≢true, and_parts, eqb-true, eq-eqb, ltb-true, ltb-false}
 use Rattle.std.proofs.lemmas.List.Elements.{filter-append}
 use Rattle.leaf_map.specs.Kept.{Placed}
-use Rattle.leaf_map.specs.Recovered.{in_order, placed_node}
+use Rattle.leaf_map.specs.Recovered.{nodes_in_order, placed_node}
 
 -- numbers don't fall, and none is below this one
 abbrev pub Ascends : ℕ → List Placed → Type 0
@@ -123,13 +123,13 @@ one_order low high (x ∷ xs) (y ∷ ys) u v h =
 
 -- ---- the laws
 -- The order depends on the nodes of each number alone.
-pub same_order : (xs ys : List Placed) → AreAlike xs ys → in_order xs ≡ in_order ys
-same_order xs ys h = one_order 0 0 (in_order xs) (in_order ys) (sorted_ascends [] xs tt) (sorted_ascends [] ys tt) (λ n. sorted_same n [] xs tt ∙ h n ∙ sym (sorted_same n [] ys tt))
+pub same_order : (xs ys : List Placed) → AreAlike xs ys → nodes_in_order xs ≡ nodes_in_order ys
+same_order xs ys h = one_order 0 0 (nodes_in_order xs) (nodes_in_order ys) (sorted_ascends [] xs tt) (sorted_ascends [] ys tt) (λ n. sorted_same n [] xs tt ∙ h n ∙ sym (sorted_same n [] ys tt))
 
 -- An ascending list that has of each number the nodes of two lists is these two in order.
-pub merged_order : (xs ys zs : List Placed) → Ascends 0 zs → ((n : ℕ) → of_number n zs ≡ of_number n xs ++ of_number n ys) → in_order (xs ++ ys) ≡ zs
+pub merged_order : (xs ys zs : List Placed) → Ascends 0 zs → ((n : ℕ) → of_number n zs ≡ of_number n xs ++ of_number n ys) → nodes_in_order (xs ++ ys) ≡ zs
 merged_order xs ys zs up h =
-    one_order 0 0 (in_order (xs ++ ys)) zs (sorted_ascends [] (xs ++ ys) tt) up (λ n. sorted_same n [] (xs ++ ys) tt ∙ filter-append (λ (z : Placed). z.sqnum == n) xs ys ∙ sym (h n))
+    one_order 0 0 (nodes_in_order (xs ++ ys)) zs (sorted_ascends [] (xs ++ ys) tt) up (λ n. sorted_same n [] (xs ++ ys) tt ∙ filter-append (λ (z : Placed). z.sqnum == n) xs ys ∙ sym (h n))
 
 no_such : (n : ℕ) (ys : List Placed) → list_all (λ y. not (y.sqnum == n)) ys ≡ true → of_number n ys ≡ []
 no_such n [] h = refl
@@ -162,7 +162,7 @@ joined_alike n front xs ys back =
     filter-append P (front ++ (xs ++ ys)) back ∙ ap (λ zs. zs ++ of_number n back) (filter-append P front (xs ++ ys) ∙ ap (λ zs. of_number n front ++ zs) (filter-append P xs ys))
 
 -- Lists that have no number in common may be joined either way.
-pub joined_order : (front xs ys back : List Placed) → are_beside xs ys ≡ true → in_order (front ++ (xs ++ ys) ++ back) ≡ in_order (front ++ (ys ++ xs) ++ back)
+pub joined_order : (front xs ys back : List Placed) → are_beside xs ys ≡ true → nodes_in_order (front ++ (xs ++ ys) ++ back) ≡ nodes_in_order (front ++ (ys ++ xs) ++ back)
 joined_order front xs ys back h = same_order _ _ (λ n.
     joined_alike n front xs ys back
     ∙ ap (λ zs. of_number n front ++ zs ++ of_number n back) (either_way (of_number n xs) (of_number n ys) (one_has_none n xs ys h))

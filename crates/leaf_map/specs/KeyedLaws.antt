@@ -12,7 +12,7 @@ use Rattle.fs_model.specs.declared.change.Change.{Change}
 use Rattle.fs_model.specs.declared.change.Change.TheVariants.{SetInode, SetEntry, DropEntry, SetBlock, CutBlocks, DropInode}
 use Rattle.fs_model.specs.declared.inode.Kind.{Kind}
 use Rattle.group_nodes.specs.Nodes.{bits_of, change_of, inode_of, kind_of_bits, kind_of_type}
-use Rattle.leaf_map.specs.After.{Carries, is_set}
+use Rattle.leaf_map.specs.After.{ShowsChange, is_set}
 use Rattle.leaf_map.specs.Kept.{node_key, shown}
 use Rattle.leaf_map.specs.LeafMap.{HasKeyOf}
 
@@ -42,30 +42,30 @@ node_keyed (truncation node) leaf change key is e set =
     absurd cc
 
 inode_carried : (node : InoNode) (change : Change) (z : Bool) → (node.nlink == 0) ≡ z
-    → cond z (Some (DropInode node.ino)) (option_map (λ kind. SetInode node.ino (inode_of node kind)) (kind_of_bits (bits_of node.mode))) ≡ Some change → Carries change (inode node)
+    → cond z (Some (DropInode node.ino)) (option_map (λ kind. SetInode node.ino (inode_of node kind)) (kind_of_bits (bits_of node.mode))) ≡ Some change → ShowsChange change (inode node)
 inode_carried node change true h e =
     let same : DropInode node.ino ≡ change = cc in
-    subst (λ c. Carries c (inode node)) same (rw h refl)
+    subst (λ c. ShowsChange c (inode node)) same (rw h refl)
 inode_carried node change false h e = by (kind_of_bits (bits_of node.mode)) refl e
   where
-    by : (k : Option Kind) → kind_of_bits (bits_of node.mode) ≡ k → option_map (λ kind. SetInode node.ino (inode_of node kind)) k ≡ Some change → Carries change (inode node)
+    by : (k : Option Kind) → kind_of_bits (bits_of node.mode) ≡ k → option_map (λ kind. SetInode node.ino (inode_of node kind)) k ≡ Some change → ShowsChange change (inode node)
     by None x f = absurd cc
     by (Some kind) x f =
         let same : SetInode node.ino (inode_of node kind) ≡ change = cc in
-        subst (λ c. Carries c (inode node)) same (rw x refl)
+        subst (λ c. ShowsChange c (inode node)) same (rw x refl)
 
 entry_carried : (node : DentNode) (change : Change) (k : Option Kind) (a z : Bool) → shown (entry node) ≡ Some change
-    → cond a None (cond z (Some (DropEntry node.dir node.name)) (option_map (λ kind. SetEntry (record { dir = node.dir; name = node.name; ino = node.inum; kind = kind })) k)) ≡ Some change → Carries change (entry node)
+    → cond a None (cond z (Some (DropEntry node.dir node.name)) (option_map (λ kind. SetEntry (record { dir = node.dir; name = node.name; ino = node.inum; kind = kind })) k)) ≡ Some change → ShowsChange change (entry node)
 entry_carried node change k true z s e = absurd cc
-entry_carried node change k false true s e = let same : DropEntry node.dir node.name ≡ change = cc in subst (λ c. shown (entry node) ≡ Some c → Carries c (entry node)) same (λ t. t) s
+entry_carried node change k false true s e = let same : DropEntry node.dir node.name ≡ change = cc in subst (λ c. shown (entry node) ≡ Some c → ShowsChange c (entry node)) same (λ t. t) s
 entry_carried node change None false false s e = absurd cc
 entry_carried node change (Some kind) false false s e =
     let same : SetEntry (record { dir = node.dir; name = node.name; ino = node.inum; kind = kind }) ≡ change = cc in
-    subst (λ c. shown (entry node) ≡ Some c → Carries c (entry node)) same (λ t. t) s
+    subst (λ c. shown (entry node) ≡ Some c → ShowsChange c (entry node)) same (λ t. t) s
 
 -- a node carries what is read of it
-pub read_carried : (node : LeafNode) (change : Change) → change_of node ≡ Some change → Carries change node
+pub read_carried : (node : LeafNode) (change : Change) → change_of node ≡ Some change → ShowsChange change node
 read_carried (inode node) change e = inode_carried node change (node.nlink == 0) refl e
-read_carried (block node) change e = let same : SetBlock node.ino node.block node.bytes ≡ change = cc in subst (λ c. Carries c (block node)) same refl
+read_carried (block node) change e = let same : SetBlock node.ino node.block node.bytes ≡ change = cc in subst (λ c. ShowsChange c (block node)) same refl
 read_carried (entry node) change e = entry_carried node change (kind_of_type node.kind) node.attribute (node.inum == 0) e e
-read_carried (truncation node) change e = let same : CutBlocks node.ino node.old_size node.new_size ≡ change = cc in subst (λ c. Carries c (truncation node)) same refl
+read_carried (truncation node) change e = let same : CutBlocks node.ino node.old_size node.new_size ≡ change = cc in subst (λ c. ShowsChange c (truncation node)) same refl

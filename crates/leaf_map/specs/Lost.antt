@@ -9,13 +9,13 @@ use Rattle.fs_model.specs.Path.{is_empty, is_same_name}
 use Rattle.group_nodes.specs.Nodes.{leaf_key}
 use Rattle.leaf_map.specs.Kept.{Placed}
 use Rattle.leaf_map.specs.Parts.{Committed, Named, Parts, in_bud, own_node, shows_nothing}
-use Rattle.leaf_map.specs.Recovered.{copies_left, in_order, leaf_at, leaves_found, spare_copies}
+use Rattle.leaf_map.specs.Recovered.{copies_left, nodes_in_order, leaf_found_for, leaves_found, spare_copies}
 
 -- the committed leaves that recovery can't find: names, of which neither the node nor a copy of it can be read, or whose node names no inode
 abbrev pub lost_leaves : List Named → List Placed → List Committed → List Committed
 lost_leaves named copies [] = []
 lost_leaves named copies (x ∷ committed) =
-    (if is_empty (leaf_at copies x (own_node named x)) then x ∷ [] else []) ++ lost_leaves named (copies_left copies x (own_node named x)) committed
+    (if is_empty (leaf_found_for copies x (own_node named x)) then x ∷ [] else []) ++ lost_leaves named (copies_left copies x (own_node named x)) committed
 
 -- whether two entries, which are no attributes, have the same directory and name
 abbrev pub have_same_name : LeafNode → LeafNode → Bool
@@ -28,7 +28,7 @@ is_read_name named committed y = list_any (λ x. not (in_bud named x.leaf) && op
 
 -- the nodes of the journal, in order of number, that may stand for names that can't be read: no leaf that can be read, and none that is found, has their name
 abbrev pub spare_names : Parts → List Placed
-spare_names parts = filter (λ y. not (is_read_name parts.named parts.committed y) && not (list_any (λ k. have_same_name k.node y.node) (leaves_found parts))) (in_order parts.nodes)
+spare_names parts = filter (λ y. not (is_read_name parts.named parts.committed y) && not (list_any (λ k. have_same_name k.node y.node) (leaves_found parts))) (nodes_in_order parts.nodes)
 
 -- the node that stands for a lost leaf whose name can't be read: the first of its key
 abbrev pub stands_for : List Placed → Leaf → Option Placed
@@ -60,4 +60,4 @@ missing_leaves parts = unnamed parts.named (spare_names parts) (lost_of parts)
 
 -- and those whose node names no inode
 abbrev pub empty_names : Parts → List Leaf
-empty_names parts = map (λ x. x.leaf) (filter (λ x. shows_nothing parts.named x && not (is_renamed (in_order parts.nodes) x)) (lost_of parts))
+empty_names parts = map (λ x. x.leaf) (filter (λ x. shows_nothing parts.named x && not (is_renamed (nodes_in_order parts.nodes) x)) (lost_of parts))

@@ -29,9 +29,9 @@ abbrev pub copy_of_key : Leaf → List Placed → Option Placed
 copy_of_key leaf copies = find (λ c. leaf_rank (kept_at c).leaf == leaf_rank leaf) copies
 
 -- the leaf that is found for a committed one, out of some copies
-abbrev pub leaf_at : List Placed → Committed → Option Placed → List Kept
-leaf_at copies x (Some own) = record { leaf = x.leaf; sqnum = own.sqnum; node = own.node } ∷ []
-leaf_at copies x None = at_copy (copy_of_key x.leaf copies)
+abbrev pub leaf_found_for : List Placed → Committed → Option Placed → List Kept
+leaf_found_for copies x (Some own) = record { leaf = x.leaf; sqnum = own.sqnum; node = own.node } ∷ []
+leaf_found_for copies x None = at_copy (copy_of_key x.leaf copies)
   where
     unread : Option LeafNode → List Kept
     unread None = []
@@ -54,7 +54,7 @@ copies_left copies x None = by (copy_of_key x.leaf copies)
 abbrev pub found_leaves : List Named → List Placed → List Committed → List Kept
 found_leaves named copies [] = []
 found_leaves named copies (x ∷ committed) =
-    leaf_at copies x (own_node named x) ++ found_leaves named (copies_left copies x (own_node named x)) committed
+    leaf_found_for copies x (own_node named x) ++ found_leaves named (copies_left copies x (own_node named x)) committed
 
 -- whether a leaf's own node shows what a copy shows
 abbrev pub is_original : List Named → Placed → Committed → Bool
@@ -78,8 +78,8 @@ abbrev pub placed_node : List Placed → Placed → List Placed
 placed_node [] new = new ∷ []
 placed_node (first ∷ nodes) new = if nat_lt new.sqnum first.sqnum then new ∷ first ∷ nodes else first ∷ placed_node nodes new
 
-abbrev pub in_order : List Placed → List Placed
-in_order nodes = fold placed_node [] nodes
+abbrev pub nodes_in_order : List Placed → List Placed
+nodes_in_order nodes = fold placed_node [] nodes
 
 -- the leaves after nodes
 abbrev pub leaves_after : List Kept → List Placed → List Kept
@@ -101,24 +101,24 @@ without_orphan kept ino = if list_any (λ x. is_unlinked ino (shown_by x)) kept 
 
 -- ---- fourth, originals or copies: by LEB
 -- the copy of a leaf's node, which has its number
-abbrev pub copy_of : List Placed → Kept → Option Placed
-copy_of copies x = find (λ c. (c.sqnum == x.sqnum) && shows_same (shown_by x) (shown c.node)) copies
+abbrev pub copy_of_leaf : List Placed → Kept → Option Placed
+copy_of_leaf copies x = find (λ c. (c.sqnum == x.sqnum) && shows_same (shown_by x) (shown c.node)) copies
 
 -- whether each leaf of a LEB has a copy
 abbrev pub is_copied : List Placed → List Kept → ℕ → Bool
-is_copied copies kept lnum = list_all (λ x. not (x.leaf.lnum == lnum) || is_some (copy_of copies x)) kept
+is_copied copies kept lnum = list_all (λ x. not (x.leaf.lnum == lnum) || is_some (copy_of_leaf copies x)) kept
 
 -- a leaf at its copy, if it has one
 abbrev pub at_copy : List Placed → Kept → Kept
-at_copy copies x = by (copy_of copies x)
+at_copy copies x = by (copy_of_leaf copies x)
   where
     by : Option Placed → Kept
     by None = x
     by (Some copy) = record x { leaf = (kept_at copy).leaf }
 
 -- the leaves of a LEB that is no bud stand at their copies if each of them has one, and else at their originals
-abbrev pub moved : Parts → List Kept → Kept → Kept
-moved parts kept x = if not (is_named parts.named x.leaf.lnum) && is_copied parts.copies kept x.leaf.lnum then at_copy parts.copies x else x
+abbrev pub moved_to_its_copy : Parts → List Kept → Kept → Kept
+moved_to_its_copy parts kept x = if not (is_named parts.named x.leaf.lnum) && is_copied parts.copies kept x.leaf.lnum then at_copy parts.copies x else x
 
 -- ---- all of it
 -- the highest inode number in keys
@@ -133,7 +133,7 @@ pub record Recovered : Type 0 where
 
 -- the leaves after the third step
 abbrev pub leaves_left : Parts → List Kept
-leaves_left parts = fold without_orphan (leaves_after (leaves_found parts) (in_order parts.nodes)) (listed_left parts)
+leaves_left parts = fold without_orphan (leaves_after (leaves_found parts) (nodes_in_order parts.nodes)) (listed_left parts)
 
 -- the highest number of the committed index
 abbrev pub committed_highest : Parts → ℕ
@@ -143,8 +143,8 @@ abbrev pub recovered_of : Parts → Recovered
 recovered_of parts =
     let left = leaves_left parts in
     record {
-      kept = map (moved parts left) left;
-      highest = highest_key (committed_highest parts) (map (λ x. node_key x.node) (in_order parts.nodes));
+      kept = map (moved_to_its_copy parts left) left;
+      highest = highest_key (committed_highest parts) (map (λ x. node_key x.node) (nodes_in_order parts.nodes));
       nodes = length parts.nodes;
     }
 

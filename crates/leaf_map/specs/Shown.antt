@@ -7,14 +7,14 @@ use Rattle.fs_model.specs.Files.{Tree, Inodes, Blocks, Entries, name_cmp}
 use Rattle.leaf_map.specs.Kept.{Kept, shown_by}
 
 -- an inode before others, where one is shown
-abbrev pub with_inode : Option Change → Inodes → Inodes
-with_inode (Some (SetInode ino inode)) inodes = (ino, inode) ∷ inodes
-with_inode shown inodes = inodes
+abbrev pub with_shown_inode : Option Change → Inodes → Inodes
+with_shown_inode (Some (SetInode ino inode)) inodes = (ino, inode) ∷ inodes
+with_shown_inode shown inodes = inodes
 
 -- a block before others, where one is shown
-abbrev pub with_block : Option Change → Blocks → Blocks
-with_block (Some (SetBlock ino number bytes)) blocks = ((ino, number), bytes) ∷ blocks
-with_block shown blocks = blocks
+abbrev pub with_shown_block : Option Change → Blocks → Blocks
+with_shown_block (Some (SetBlock ino number bytes)) blocks = ((ino, number), bytes) ∷ blocks
+with_shown_block shown blocks = blocks
 
 -- a name among others, where one is shown
 abbrev pub with_entry : Option Change → Entries → Entries
@@ -24,12 +24,12 @@ with_entry shown entries = entries
 -- the inodes of leaves, in the order of the leaves
 abbrev pub inodes_of : List Kept → Inodes
 inodes_of [] = []
-inodes_of (x ∷ kept) = with_inode (shown_by x) (inodes_of kept)
+inodes_of (x ∷ kept) = with_shown_inode (shown_by x) (inodes_of kept)
 
 -- their blocks, in the order of the leaves
-abbrev pub blocks_of : List Kept → Blocks
-blocks_of [] = []
-blocks_of (x ∷ kept) = with_block (shown_by x) (blocks_of kept)
+abbrev pub blocks_shown_by : List Kept → Blocks
+blocks_shown_by [] = []
+blocks_shown_by (x ∷ kept) = with_shown_block (shown_by x) (blocks_shown_by kept)
 
 -- their names, sorted
 abbrev pub entries_of : List Kept → Entries
@@ -38,4 +38,4 @@ entries_of (x ∷ kept) = with_entry (shown_by x) (entries_of kept)
 
 -- the tree that leaves show, where this is the highest number that was ever used
 abbrev pub tree_of : List Kept → ℕ → Tree
-tree_of kept highest = record { inodes = inodes_of kept; blocks = blocks_of kept; entries = entries_of kept; highest = highest }
+tree_of kept highest = record { inodes = inodes_of kept; blocks = blocks_shown_by kept; entries = entries_of kept; highest = highest }

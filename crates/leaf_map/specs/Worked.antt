@@ -11,7 +11,7 @@ use Rattle.group_nodes.specs.Nodes.{inode_node, node_of}
 use Rattle.group_nodes.specs.Texts.{leaf_len}
 use Rattle.leaf_map.specs.Kept.{Kept, Placed, kept_at}
 use Rattle.leaf_map.specs.Parts.{Committed, Named, Parts}
-use Rattle.leaf_map.specs.SpaceFound.{MainArea}
+use Rattle.leaf_map.specs.SpaceFound.{MainAreaFound}
 
 -- the node of a change with this number, at a place of a LEB
 abbrev pub at : ℕ → ℕ → ℕ → Change → Placed
@@ -74,12 +74,12 @@ abbrev pub still_orphan : Parts
 still_orphan = parts orphan [] [] (65 ∷ [])
 
 -- inode 65 with so many links, whose mode names no kind
-abbrev pub unknown : ℕ → Placed
-unknown nlink = record (at 20 0 1 (SetInode 65 (file nlink))) { node = inode (record (inode_node 65 (file nlink)) { mode = 0o644 }) }
+abbrev pub unknown_kind_inode : ℕ → Placed
+unknown_kind_inode nlink = record (at 20 0 1 (SetInode 65 (file nlink))) { node = inode (record (inode_node 65 (file nlink)) { mode = 0o644 }) }
 
 -- it is listed
 abbrev pub unknown_orphan : ℕ → Parts
-unknown_orphan nlink = parts (own (unknown nlink) ∷ []) [] [] (65 ∷ [])
+unknown_orphan nlink = parts (own (unknown_kind_inode nlink) ∷ []) [] [] (65 ∷ [])
 
 -- it got its link again
 abbrev pub linked_again : Parts
@@ -122,8 +122,8 @@ one_is_gone = parts
     []
 
 -- a collection that copied both leaves of a LEB, and one that copied one of them
-abbrev pub collected : List Placed → Parts
-collected copies = parts (own (at 20 0 1 (SetInode 65 (file 1))) ∷ own (at 20 160 2 (SetBlock 65 0 (97 ∷ []))) ∷ []) [] copies []
+abbrev pub collected_parts : List Placed → Parts
+collected_parts copies = parts (own (at 20 0 1 (SetInode 65 (file 1))) ∷ own (at 20 160 2 (SetBlock 65 0 (97 ∷ []))) ∷ []) [] copies []
 
 abbrev pub inode_copy : Placed
 inode_copy = at 30 0 1 (SetInode 65 (file 1))
@@ -132,21 +132,21 @@ abbrev pub block_copy : Placed
 block_copy = at 30 160 2 (SetBlock 65 0 (97 ∷ []))
 
 -- the main area: LEBs 20, 21, 25, 30, 31 and 32, of which LEB 25 has the index
-abbrev pub area : MainArea
+abbrev pub area : MainAreaFound
 area = record { lebs = 20 ∷ 21 ∷ 25 ∷ 30 ∷ 31 ∷ 32 ∷ []; indexed = 25 ∷ 25 ∷ []; weight = 2 }
 
 -- a file whose one leaf a bud's node replaces
-abbrev pub replaced : Parts
-replaced = parts (own (at 20 0 1 (SetInode 65 (file 1))) ∷ []) (at 31 0 5 (SetInode 65 (file 1)) ∷ []) [] []
+abbrev pub replaced_parts : Parts
+replaced_parts = parts (own (at 20 0 1 (SetInode 65 (file 1))) ∷ []) (at 31 0 5 (SetInode 65 (file 1)) ∷ []) [] []
 
 -- a LEB that the log names for a head
-abbrev pub opened : ℕ → ℕ → Named
-opened head lnum = record { head = head; lnum = lnum; from = 0 }
+abbrev pub named_leb : ℕ → ℕ → Named
+named_leb head lnum = record { head = head; lnum = lnum; from = 0 }
 
 -- two LEBs that the collector opened, the lower one last
 abbrev pub two_opened : Parts
-two_opened = record (collected []) { named = opened 0 32 ∷ opened 0 30 ∷ [] }
+two_opened = record (collected_parts []) { named = named_leb 0 32 ∷ named_leb 0 30 ∷ [] }
 
 -- a LEB that the log names for head 0 and for head 1
 abbrev pub two_owners : Parts
-two_owners = record (collected []) { named = opened 0 30 ∷ opened 1 30 ∷ [] }
+two_owners = record (collected_parts []) { named = named_leb 0 30 ∷ named_leb 1 30 ∷ [] }

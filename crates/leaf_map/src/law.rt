@@ -18,23 +18,23 @@ ghost use Rattle.fs_model.specs.Files.{Tree, inode_at, name_cmp, pair_cmp};
 ghost use Rattle.fs_model.specs.Proper.{IsInOrder};
 ghost use Rattle.group_nodes.specs.Nodes.{change_of, node_of};
 ghost use Rattle.fs_model.specs.Recovery.{Head, IsRecovered, KeepsSynced, Numbered, recovered, taken};
-ghost use Rattle.leaf_map.specs.Allowed.{AreOriginals, FitsLeaves, FitsTree, HasInode, IsCopied, IsNodeOf, IsOwnNode, IsTouchedIn, LosesNothing};
-ghost use Rattle.leaf_map.specs.After.{Carries, come_by, gone_by, is_gone, is_idle, is_set, kept_after, kept_by, used_by};
+ghost use Rattle.leaf_map.specs.Allowed.{AreOriginals, FitsLeaves, FitsTree, HasInode, IsNodeCopied, IsNodeOfLeaves, IsOwnNode, IsTouchedIn, LosesNothing};
+ghost use Rattle.leaf_map.specs.After.{ShowsChange, come_by, gone_by, is_gone, is_idle, is_set, kept_after, kept_by, used_by};
 ghost use Rattle.leaf_map.specs.Follows.{block_key_from, last_block_key, with_leaf, without_old};
 ghost use Rattle.leaf_map.specs.InOrder.{Ascends, are_beside, of_number};
 ghost use Rattle.leaf_map.specs.Kept.{Kept, Placed, kept_at, shown_by};
 ghost use Rattle.leaf_map.specs.LastChange.{last_made, makes_block, makes_entry, makes_inode, there};
 ghost use Rattle.leaf_map.specs.LeafMap.{IsLeafMap};
 ghost use Rattle.leaf_map.specs.Parts.{Parts, is_shown};
-ghost use Rattle.leaf_map.specs.Recovered.{committed_highest, in_order, is_unlinked, leaves_found, moved, tree_found, without_orphan};
+ghost use Rattle.leaf_map.specs.Recovered.{committed_highest, nodes_in_order, is_unlinked, leaves_found, moved_to_its_copy, tree_found, without_orphan};
 ghost use Rattle.leaf_map.specs.Shown.{tree_of};
 
 /// The tree of the leaves after a change is the change applied to their tree; they are leaves as an index has them again.
 /// The same is so of a node that is read of a journal, and of the change that it carries.
 pub fn a_change_of_leaves_is_one_of_the_tree()
-    ensures tree { (change : AnyChange) (new : Placed) (kept : List Kept) (highest : ℕ) → IsLeaf new.node → Carries change new.node → IsLeafMap kept
+    ensures tree { (change : AnyChange) (new : Placed) (kept : List Kept) (highest : ℕ) → IsLeaf new.node → ShowsChange change new.node → IsLeafMap kept
         → tree_of (kept_by change (kept_at new) kept) (max highest (key_number change)) ≡ applied (tree_of kept highest) change }
-    ensures kept { (change : AnyChange) (new : Placed) (kept : List Kept) → IsLeaf new.node → Carries change new.node → IsLeafMap kept
+    ensures kept { (change : AnyChange) (new : Placed) (kept : List Kept) → IsLeaf new.node → ShowsChange change new.node → IsLeafMap kept
         → IsLeafMap (kept_by change (kept_at new) kept) }
     ensures read { (change : AnyChange) (new : Placed) (kept : List Kept) (highest : ℕ) → IsLeaf new.node → change_of new.node ≡ Some change → IsLeafMap kept
         → tree_of (kept_after kept new) (max highest (key_number change)) ≡ applied (tree_of kept highest) change }
@@ -44,7 +44,7 @@ pub fn a_change_of_leaves_is_one_of_the_tree()
 /// Bytes add up: those of the leaves after a change and of the ones that it makes obsolete are those of the leaves before
 /// and of the one that comes.
 pub fn bytes_of_leaves_add_up()
-    ensures { (change : AnyChange) (new : Placed) (kept : List Kept) → IsLeaf new.node → Carries change new.node → IsLeafMap kept
+    ensures { (change : AnyChange) (new : Placed) (kept : List Kept) → IsLeaf new.node → ShowsChange change new.node → IsLeafMap kept
         → used_by (kept_by change (kept_at new) kept) + used_by (gone_by change kept) ≡ used_by kept + used_by (come_by change (kept_at new) kept) }
 {}
 
@@ -71,7 +71,7 @@ pub fn leaves_stay_distinct()
 pub fn a_copy_changes_no_tree()
     ensures places { (move : Kept → Kept) (kept : List Kept) (highest : ℕ) → ((x : Kept) → (move x).node ≡ x.node)
         → tree_of (map move kept) highest ≡ tree_of kept highest }
-    ensures moved { (parts : Parts) (kept : List Kept) (highest : ℕ) → tree_of (map (moved parts kept) kept) highest ≡ tree_of kept highest }
+    ensures moved { (parts : Parts) (kept : List Kept) (highest : ℕ) → tree_of (map (moved_to_its_copy parts kept) kept) highest ≡ tree_of kept highest }
 {}
 
 /// A mount finds a tree that a cut may leave: what was read fits a committed tree and the groups that were read, of each head
@@ -89,14 +89,14 @@ pub fn originals_are_found()
 
 /// The node that a change makes carries it, also one that sets an inode without links.
 pub fn nodes_of_changes_carry_them()
-    ensures { (change : AnyChange) → IsTrue (is_node change) → Carries change (node_of change) }
+    ensures { (change : AnyChange) → IsTrue (is_node change) → ShowsChange change (node_of change) }
 {}
 
 /// An index follows: a leaf that is set takes the place of the one that goes, or goes behind all of no greater key; a name
 /// that goes takes its leaf. A truncation is the removal of a range of keys, and so is an inode that goes with its blocks.
 /// Of a listed orphan that same range goes if the inode has no links.
 pub fn indexes_follow()
-    ensures set { (change : AnyChange) (new : Placed) (kept : List Kept) → is_set change ≡ true → is_idle kept change ≡ false → IsLeaf new.node → Carries change new.node
+    ensures set { (change : AnyChange) (new : Placed) (kept : List Kept) → is_set change ≡ true → is_idle kept change ≡ false → IsLeaf new.node → ShowsChange change new.node
         → IsLeafMap kept → AreDistinct (map (λ x. x.leaf) kept)
         → map (λ x. x.leaf) (kept_by change (kept_at new) kept) ≡ with_leaf (find (is_gone change) kept) (kept_at new).leaf (map (λ x. x.leaf) kept) }
     ensures dropped { (dir : ℕ) (name : List ℕ) (new : Kept) (kept : List Kept) → IsLeafMap kept → AreDistinct (map (λ x. x.leaf) kept)
@@ -119,8 +119,8 @@ pub fn found_leaves_are_of_an_index()
 
 /// Whichever originals are gone, each committed node is found that stands at its own place still, or that has a copy.
 pub fn copied_leaves_are_found()
-    ensures { (parts : Parts) (kept : List Kept) → FitsLeaves parts kept → (node : LeafNode) → IsOwnNode parts.named parts.committed node ⊎ IsCopied parts.copies node
-        → IsNodeOf (leaves_found parts) node }
+    ensures { (parts : Parts) (kept : List Kept) → FitsLeaves parts kept → (node : LeafNode) → IsOwnNode parts.named parts.committed node ⊎ IsNodeCopied parts.copies node
+        → IsNodeOfLeaves (leaves_found parts) node }
 {}
 
 /// What was read that loses nothing of committed leaves fits the tree that they show, so that a mount finds what a cut may leave of
@@ -140,7 +140,7 @@ pub fn what_makes_obsolete_touches()
 /// Nodes in order of number depend on nothing but the nodes that each number has, in their order. So lists that have no number
 /// in common may be joined either way, and an ascending list that has of each number the nodes of two lists is their merge.
 pub fn order_forgets_how_nodes_were_joined()
-    ensures same { (xs ys : List Placed) → ((n : ℕ) → of_number n xs ≡ of_number n ys) → in_order xs ≡ in_order ys }
-    ensures joined { (front xs ys back : List Placed) → are_beside xs ys ≡ true → in_order (front ++ (xs ++ ys) ++ back) ≡ in_order (front ++ (ys ++ xs) ++ back) }
-    ensures merged { (xs ys zs : List Placed) → Ascends 0 zs → ((n : ℕ) → of_number n zs ≡ of_number n xs ++ of_number n ys) → in_order (xs ++ ys) ≡ zs }
+    ensures same { (xs ys : List Placed) → ((n : ℕ) → of_number n xs ≡ of_number n ys) → nodes_in_order xs ≡ nodes_in_order ys }
+    ensures joined { (front xs ys back : List Placed) → are_beside xs ys ≡ true → nodes_in_order (front ++ (xs ++ ys) ++ back) ≡ nodes_in_order (front ++ (ys ++ xs) ++ back) }
+    ensures merged { (xs ys zs : List Placed) → Ascends 0 zs → ((n : ℕ) → of_number n zs ≡ of_number n xs ++ of_number n ys) → nodes_in_order (xs ++ ys) ≡ zs }
 {}

@@ -13,7 +13,7 @@ use Rattle.fs_model.specs.Path.{is_empty}
 use Rattle.leaf_map.specs.Kept.{Kept, Placed, kept_at, shown}
 use Rattle.leaf_map.specs.LeafMap.{shows_same}
 use Rattle.leaf_map.specs.Parts.{Committed, Named, Parts, is_own, own_node}
-use Rattle.leaf_map.specs.Recovered.{copies_left, copy_of_key, found_leaves, is_original, leaf_at, stand_in}
+use Rattle.leaf_map.specs.Recovered.{copies_left, copy_of_key, found_leaves, is_original, leaf_found_for, stand_in}
 use Rattle.journal_scan.specs.Content.{told}
 use Rattle.journal_scan.specs.declared.journal_node.JournalNode.{JournalNode}
 use Rattle.log_replay.specs.Replay.{told_committed}
@@ -43,27 +43,27 @@ abbrev pub left_after : Option Placed → List Placed → List Placed
 left_after None copies = copies
 left_after (Some copy) copies = filter (λ c. not (shows_same (shown copy.node) (shown c.node))) copies
 
-found_is : (copies : List Placed) (x : Committed) (own : Option Placed) (rest : List Kept) → leaf_at copies x own ++ rest ≡ cons_option (leaf_found copies x own) rest
+found_is : (copies : List Placed) (x : Committed) (own : Option Placed) (rest : List Kept) → leaf_found_for copies x own ++ rest ≡ cons_option (leaf_found copies x own) rest
 found_is copies x (Some own) rest = refl
 found_is copies x None rest = by (copy_of_key x.leaf copies) refl
   where
-    unread : copy_of_key x.leaf copies ≡ None → (s : Option LeafNode) → stand_in x.leaf.key ≡ s → leaf_at copies x None ++ rest ≡ cons_option (leaf_found copies x None) rest
+    unread : copy_of_key x.leaf copies ≡ None → (s : Option LeafNode) → stand_in x.leaf.key ≡ s → leaf_found_for copies x None ++ rest ≡ cons_option (leaf_found copies x None) rest
     unread e None f = rw (e, f) refl
     unread e (Some node) f = rw (e, f) refl
 
-    by : (d : Option Placed) → copy_of_key x.leaf copies ≡ d → leaf_at copies x None ++ rest ≡ cons_option (leaf_found copies x None) rest
+    by : (d : Option Placed) → copy_of_key x.leaf copies ≡ d → leaf_found_for copies x None ++ rest ≡ cons_option (leaf_found copies x None) rest
     by None e = unread e (stand_in x.leaf.key) refl
     by (Some d) e = rw e refl
 
-pub empty_is : (copies : List Placed) (x : Committed) (own : Option Placed) → is_empty (leaf_at copies x own) ≡ not (is_some (leaf_found copies x own))
+pub empty_is : (copies : List Placed) (x : Committed) (own : Option Placed) → is_empty (leaf_found_for copies x own) ≡ not (is_some (leaf_found copies x own))
 empty_is copies x (Some own) = refl
 empty_is copies x None = by (copy_of_key x.leaf copies) refl
   where
-    unread : copy_of_key x.leaf copies ≡ None → (s : Option LeafNode) → stand_in x.leaf.key ≡ s → is_empty (leaf_at copies x None) ≡ not (is_some (leaf_found copies x None))
+    unread : copy_of_key x.leaf copies ≡ None → (s : Option LeafNode) → stand_in x.leaf.key ≡ s → is_empty (leaf_found_for copies x None) ≡ not (is_some (leaf_found copies x None))
     unread e None f = rw (e, f) refl
     unread e (Some node) f = rw (e, f) refl
 
-    by : (d : Option Placed) → copy_of_key x.leaf copies ≡ d → is_empty (leaf_at copies x None) ≡ not (is_some (leaf_found copies x None))
+    by : (d : Option Placed) → copy_of_key x.leaf copies ≡ d → is_empty (leaf_found_for copies x None) ≡ not (is_some (leaf_found copies x None))
     by None e = unread e (stand_in x.leaf.key) refl
     by (Some d) e = rw e refl
 
@@ -136,7 +136,7 @@ module _ (parts : Parts) (references : List RefNode) where
     where
       step : (own : Option Placed) (own' : Option JournalNode) → IfBoth (NodeTold parts) own own'
           → ((ds : List Placed) (ks : List JournalNode) → Pairwise (LeafTold parts) xs ls → Pairwise (NodeTold parts) ds ks → Pairwise (KeptTold parts) (found_leaves named ds xs) (found_leaves_told references ks ls))
-          → Pairwise (KeptTold parts) (leaf_at cs x own ++ found_leaves named (copies_left cs x own) xs)
+          → Pairwise (KeptTold parts) (leaf_found_for cs x own ++ found_leaves named (copies_left cs x own) xs)
           (cons_option (leaf_found_told js (told_committed x) own') (found_leaves_told references (copies_left_told js (told_committed x) own') ls))
       step own own' o more =
           let rest = found_leaves named (copies_left cs x own) xs in

@@ -11,11 +11,11 @@ use Rattle.journal_scan.specs.declared.node_content.NodeContent.{NodeContent}
 use Rattle.journal_scan.specs.declared.node_content.NodeContent.TheVariants.{Inode, Block, Entry, Truncation, Unknown}
 use Rattle.leaf_recovery.specs.declared.recovered_leaf.RecoveredLeaf.{RecoveredLeaf}
 use Rattle.leaf_recovery.specs.Repeated.{IsFoundAhead, RepeatNothing, repeated_behind_told}
-use Rattle.leaf_recovery.specs.Things.{rank_shown, shows_told}
+use Rattle.leaf_recovery.specs.Things.{rank_of_shown, shows_told}
 use Rattle.leaf_recovery.proofs.Seeing.{text_is}
 
 -- what two nodes show alike has one key
-same_rank : (a b : NodeContent) → 0 < rank_shown a → shows_told a b ≡ true → rank_shown a ≡ rank_shown b
+same_rank : (a b : NodeContent) → 0 < rank_of_shown a → shows_told a b ≡ true → rank_of_shown a ≡ rank_of_shown b
 same_rank (Inode ino l) (Inode q m) h t = ap (λ (n : ℕ). key_rank (Ino n)) (sym (eqb-true q ino t))
 same_rank (Inode ino l) (Block q m) h t = absurd (false≢true t)
 same_rank (Inode ino l) (Entry q m k) h t = absurd (false≢true t)
@@ -55,23 +55,23 @@ apart : (m n : ℕ) → m ≡ n → m < n → ⊥
 apart m n e h = omega arith
 
 -- what stands further on isn't shown by what has a lesser key
-not_shown : (s t : NodeContent) → 0 < rank_shown s → rank_shown s < rank_shown t → (b : Bool) → shows_told s t ≡ b → b ≡ false
+not_shown : (s t : NodeContent) → 0 < rank_of_shown s → rank_of_shown s < rank_of_shown t → (b : Bool) → shows_told s t ≡ b → b ≡ false
 not_shown s t p l false e = refl
-not_shown s t p l true e = absurd (apart (rank_shown s) (rank_shown t) (same_rank s t p e) l)
+not_shown s t p l true e = absurd (apart (rank_of_shown s) (rank_of_shown t) (same_rank s t p e) l)
 
 none_and : (b c : Bool) → b ≡ false → c ≡ false → (b || c) ≡ false
 none_and false c e h = h
 none_and true c e h = absurd (false≢true (sym e))
 
 -- where the first of some leaves stands further on, all do
-none_further : (s : NodeContent) → 0 < rank_shown s → (y : RecoveredLeaf) (leaves : List RecoveredLeaf) → rank_shown s < rank_shown y.content → IsFoundAhead y.content leaves → DoKeysGoUp leaves
+none_further : (s : NodeContent) → 0 < rank_of_shown s → (y : RecoveredLeaf) (leaves : List RecoveredLeaf) → rank_of_shown s < rank_of_shown y.content → IsFoundAhead y.content leaves → DoKeysGoUp leaves
     → list_any (λ z. shows_told s z.content) leaves ≡ false
 none_further s p y [] l a g = refl
 none_further s p y (z ∷ leaves) l (inl a) g =
-    let on = through (rank_shown s) (rank_shown y.content) (rank_shown z.content) l a.1 in
+    let on = through (rank_of_shown s) (rank_of_shown y.content) (rank_of_shown z.content) l a.1 in
     none_and (shows_told s z.content) (list_any (λ z. shows_told s z.content) leaves) (not_shown s z.content p on (shows_told s z.content) refl) (none_further s p z leaves on g.0 g.1)
 none_further s p y (z ∷ leaves) l (inr a) g =
-    let on = subst (λ (n : ℕ). rank_shown s < n) a.0 l in
+    let on = subst (λ (n : ℕ). rank_of_shown s < n) a.0 l in
     none_and (shows_told s z.content) (list_any (λ z. shows_told s z.content) leaves) (not_shown s z.content p on (shows_told s z.content) refl) (none_further s p z leaves on g.0 g.1)
 
 -- what is ahead of leaves that go up shows none of them

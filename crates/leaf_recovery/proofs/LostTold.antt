@@ -20,8 +20,8 @@ use Rattle.group_nodes.specs.Nodes.{bits_of, inode_of, kind_of_bits, leaf_key}
 use Rattle.leaf_map.specs.Kept.{Kept, Placed, kept_at, shown}
 use Rattle.leaf_map.specs.Lost.{have_same_name, is_read_name, is_renamed, lost_leaves, names_left, stands_for, unnamed}
 use Rattle.leaf_map.specs.Parts.{Committed, Named, Parts, has_links, in_bud, is_linked_unknown, is_shown, own_node, shows_nothing}
-use Rattle.leaf_map.specs.Recovered.{copies_left, leaf_at}
-use Rattle.journal_scan.specs.Content.{content_of}
+use Rattle.leaf_map.specs.Recovered.{copies_left, leaf_found_for}
+use Rattle.journal_scan.specs.Content.{node_content_of}
 use Rattle.journal_scan.specs.declared.node_content.NodeContent.{NodeContent}
 use Rattle.journal_scan.specs.declared.node_content.NodeContent.TheVariants.{Inode, Block, Entry, Truncation, Unknown}
 use Rattle.journal_scan.specs.declared.journal_node.JournalNode.{JournalNode}
@@ -67,8 +67,8 @@ entry_entry a b true y m n = refl
 entry_entry a b false true m n = refl
 entry_entry a b false false m n = refl
 
-pub name_is : (a b : LeafNode) → same_name_told (content_of a) (content_of b) ≡ have_same_name a b
-name_is (inode a) b = no_name (is_some (kind_of_bits (bits_of a.mode))) a.ino (Ino a.ino) (not (a.nlink == 0)) (content_of b)
+pub name_is : (a b : LeafNode) → same_name_told (node_content_of a) (node_content_of b) ≡ have_same_name a b
+name_is (inode a) b = no_name (is_some (kind_of_bits (bits_of a.mode))) a.ino (Ino a.ino) (not (a.nlink == 0)) (node_content_of b)
 name_is (block a) b = refl
 name_is (truncation a) b = refl
 name_is (entry a) (inode b) = entry_inode a a.attribute (not (a.inum == 0)) (is_some (kind_of_bits (bits_of b.mode))) b.ino (Ino b.ino) (not (b.nlink == 0))
@@ -77,8 +77,8 @@ name_is (entry a) (truncation b) = entry_cut a a.attribute (not (a.inum == 0)) b
 name_is (entry a) (entry b) = entry_entry a b a.attribute b.attribute (not (a.inum == 0)) (not (b.inum == 0))
 
 -- of contents that are told
-pub told_name : (c d : NodeContent) (a b : LeafNode) → c ≡ content_of a → d ≡ content_of b → have_same_name a b ≡ same_name_told c d
-told_name c d a b e f = sym (ap (λ z. same_name_told z d) e ∙ ap (same_name_told (content_of a)) f ∙ name_is a b)
+pub told_name : (c d : NodeContent) (a b : LeafNode) → c ≡ node_content_of a → d ≡ node_content_of b → have_same_name a b ≡ same_name_told c d
+told_name c d a b e f = sym (ap (λ z. same_name_told z d) e ∙ ap (same_name_told (node_content_of a)) f ∙ name_is a b)
 
 -- ---- keys
 inode_rank : (rank ino : ℕ) (k l : Bool) → has_rank_told rank (cond k (Inode ino l) (Unknown (Ino ino) l)) ≡ (key_rank (Ino ino) == rank)
@@ -90,13 +90,13 @@ entry_rank : (rank : ℕ) (a : DentNode) (x l : Bool)
 entry_rank rank a true l = refl
 entry_rank rank a false l = refl
 
-pub rank_is : (rank : ℕ) (a : LeafNode) → has_rank_told rank (content_of a) ≡ option_map_or (λ key. key_rank key == rank) (leaf_key a) false
+pub rank_is : (rank : ℕ) (a : LeafNode) → has_rank_told rank (node_content_of a) ≡ option_map_or (λ key. key_rank key == rank) (leaf_key a) false
 rank_is rank (inode a) = inode_rank rank a.ino (is_some (kind_of_bits (bits_of a.mode))) (not (a.nlink == 0))
 rank_is rank (block a) = refl
 rank_is rank (entry a) = entry_rank rank a a.attribute (not (a.inum == 0))
 rank_is rank (truncation a) = refl
 
-node_content : (parts : Parts) (p : Placed) (j : JournalNode) → NodeTold parts p j → j.content ≡ content_of p.node
+node_content : (parts : Parts) (p : Placed) (j : JournalNode) → NodeTold parts p j → j.content ≡ node_content_of p.node
 node_content parts p j t = ap (λ (n : JournalNode). n.content) t.is
 
 -- ---- a leaf that is lost
@@ -147,12 +147,12 @@ module _ (parts : Parts) (references : List RefNode) where
 
       step : (own : Option Placed) (own' : Option JournalNode) → IfBoth (NodeTold parts) own own'
           → ((ds : List Placed) (ks : List JournalNode) → Pairwise (LeafTold parts) xs ls → Pairwise (NodeTold parts) ds ks → Pairwise (LeafTold parts) (lost_leaves named ds xs) (lost_leaves_told references ks ls))
-          → Pairwise (LeafTold parts) (cond (is_empty (leaf_at cs x own)) (x ∷ []) [] ++ lost_leaves named (copies_left cs x own) xs)
+          → Pairwise (LeafTold parts) (cond (is_empty (leaf_found_for cs x own)) (x ∷ []) [] ++ lost_leaves named (copies_left cs x own) xs)
           (cond (is_some (leaf_found_told js (told_committed x) own')) [] (told_committed x ∷ []) ++ lost_leaves_told references (copies_left_told js (told_committed x) own') ls)
       step own own' o more =
-          append_pairs (LeafTold parts) (cond (is_empty (leaf_at cs x own)) (x ∷ []) []) (cond (is_some (leaf_found_told js (told_committed x) own')) [] (told_committed x ∷ []))
+          append_pairs (LeafTold parts) (cond (is_empty (leaf_found_for cs x own)) (x ∷ []) []) (cond (is_some (leaf_found_told js (told_committed x) own')) [] (told_committed x ∷ []))
           (lost_leaves named (copies_left cs x own) xs) (lost_leaves_told references (copies_left_told js (told_committed x) own') ls)
-          (if_lost x (told_committed x) here (is_empty (leaf_at cs x own)) (is_some (leaf_found_told js (told_committed x) own'))
+          (if_lost x (told_committed x) here (is_empty (leaf_found_for cs x own)) (is_some (leaf_found_told js (told_committed x) own'))
           (ap not (sym (some_pair (leaf_found cs x own) (leaf_found_told js (told_committed x) own') (found_pair parts references x own own' cs js o h))) ∙ sym (empty_is cs x own)))
           (more (copies_left cs x own) (copies_left_told js (told_committed x) own') l.1 (left_pair parts references x own own' cs js o h))
 
@@ -163,7 +163,7 @@ module _ (parts : Parts) (references : List RefNode) where
       by : (found : Option Placed) → HasGrammar (record { leaf = x.leaf; found = found }) → shows_nothing_told references (told_committed (record { leaf = x.leaf; found = found })) ≡ shows_nothing named (record { leaf = x.leaf; found = found })
       by None g = refl
       by (Some p) g =
-          rw (in_bud_is references x.leaf, thing_shown (content_of p.node) (shown p.node) (shown_of p.node g), told_leaf_is p) (three (in_bud named x.leaf) (not (is_shown (shown p.node))) (same_leaf x.leaf (kept_at p).leaf))
+          rw (in_bud_is references x.leaf, thing_shown (node_content_of p.node) (shown p.node) (shown_of p.node g), told_leaf_is p) (three (in_bud named x.leaf) (not (is_shown (shown p.node))) (same_leaf x.leaf (kept_at p).leaf))
 
   -- ---- which inodes are spared
   module _ (q : ℕ) where
@@ -182,7 +182,7 @@ module _ (parts : Parts) (references : List RefNode) where
     no_entry a true l c = refl
     no_entry a false l c = refl
 
-    unknown_is : (node : LeafNode) (b s : Bool) → (is_unknown_told q (content_of node) && (b && (not (is_shown (shown node)) && s))) ≡ (has_links q node && (b && (not (is_shown (shown node)) && s)))
+    unknown_is : (node : LeafNode) (b s : Bool) → (is_unknown_told q (node_content_of node) && (b && (not (is_shown (shown node)) && s))) ≡ (has_links q node && (b && (not (is_shown (shown node)) && s)))
     unknown_is (inode node) b s = unknown_inode node (not (node.nlink == 0)) (kind_of_bits (bits_of node.mode)) b s
     unknown_is (block node) b s = refl
     unknown_is (entry node) b s = no_entry node node.attribute (not (node.inum == 0)) (b && (not (is_shown (shown (entry node))) && s))
@@ -194,7 +194,7 @@ module _ (parts : Parts) (references : List RefNode) where
         by : (found : Option Placed) → HasGrammar (record { leaf = x.leaf; found = found }) → is_spared_by references q (told_committed (record { leaf = x.leaf; found = found })) ≡ is_linked_unknown named q (record { leaf = x.leaf; found = found })
         by None g = refl
         by (Some p) g =
-            ap (λ (b : Bool). is_unknown_told q (content_of p.node) && b) (nothing_is (record { leaf = x.leaf; found = Some p }) g)
+            ap (λ (b : Bool). is_unknown_told q (node_content_of p.node) && b) (nothing_is (record { leaf = x.leaf; found = Some p }) g)
             ∙ unknown_is p.node (not (in_bud named x.leaf)) (same_leaf x.leaf (kept_at p).leaf)
 
     pub any_spared : (xs : List Committed) (ls : List CommittedLeaf) → Pairwise (LeafTold parts) xs ls → list_any (is_linked_unknown named q) xs ≡ list_any (is_spared_by references q) ls
@@ -207,7 +207,7 @@ module _ (parts : Parts) (references : List RefNode) where
         by : (found : Option Placed) → is_renamed_told js (told_committed (record { leaf = x.leaf; found = found })) ≡ is_renamed ns (record { leaf = x.leaf; found = found })
         by None = refl
         by (Some p) =
-            sym (any_pairs (NodeTold parts) (λ y. have_same_name p.node y.node) (λ j. same_name_told (content_of p.node) j.content) (λ y j t. told_name (content_of p.node) j.content p.node y.node refl (node_content parts y j t)) ns js nodes)
+            sym (any_pairs (NodeTold parts) (λ y. have_same_name p.node y.node) (λ j. same_name_told (node_content_of p.node) j.content) (λ y j t. told_name (node_content_of p.node) j.content p.node y.node refl (node_content parts y j t)) ns js nodes)
 
     one_lost : (x : Committed) (k : CommittedLeaf) → LeafTold parts x k → LostTold named ns x (lost_leaf_told references js k)
     one_lost x k t =
@@ -235,8 +235,8 @@ module _ (parts : Parts) (references : List RefNode) where
           by None = no (not (in_bud named x.leaf))
           by (Some p) =
               turned (not (in_bud named x.leaf)) (have_same_name p.node y.node)
-              ∙ ap (λ (b : Bool). b && not (in_bud named x.leaf)) (told_name (content_of p.node) j.content p.node y.node refl (node_content parts y j t))
-              ∙ ap (λ (b : Bool). same_name_told (content_of p.node) j.content && not b) (sym (in_bud_is references x.leaf))
+              ∙ ap (λ (b : Bool). b && not (in_bud named x.leaf)) (told_name (node_content_of p.node) j.content p.node y.node refl (node_content parts y j t))
+              ∙ ap (λ (b : Bool). same_name_told (node_content_of p.node) j.content && not b) (sym (in_bud_is references x.leaf))
 
       taken_is : (y : Placed) (j : JournalNode) → NodeTold parts y j
           → (not (is_read_name named xs y) && not (list_any (λ k. have_same_name k.node y.node) ks)) ≡ not (is_taken_told references ls rs j)

@@ -11,8 +11,8 @@ use Rattle.index_tree.specs.declared.leaf.Leaf.{Leaf}
 use Rattle.leaf_map.specs.Kept.{Kept, Placed, kept_at, shown, shown_by}
 use Rattle.leaf_map.specs.LeafMap.{shows_same}
 use Rattle.leaf_map.specs.Parts.{Parts, is_named}
-use Rattle.leaf_map.specs.Recovered.{at_copy, copy_of, is_copied, moved, stand_in}
-use Rattle.journal_scan.specs.Content.{content_of}
+use Rattle.leaf_map.specs.Recovered.{at_copy, copy_of_leaf, is_copied, moved_to_its_copy, stand_in}
+use Rattle.journal_scan.specs.Content.{node_content_of}
 use Rattle.journal_scan.specs.declared.journal_node.JournalNode.{JournalNode}
 use Rattle.journal_scan.specs.declared.node_content.NodeContent.{NodeContent}
 use Rattle.journal_scan.specs.declared.node_content.NodeContent.TheVariants.{Inode, Block, Entry, Truncation, Unknown}
@@ -31,10 +31,10 @@ abbrev kept_moved : Kept → Option Placed → Kept
 kept_moved x None = x
 kept_moved x (Some copy) = record x { leaf = (kept_at copy).leaf }
 
-at_is : (copies : List Placed) (x : Kept) → at_copy copies x ≡ kept_moved x (copy_of copies x)
-at_is copies x = by (copy_of copies x) refl
+at_is : (copies : List Placed) (x : Kept) → at_copy copies x ≡ kept_moved x (copy_of_leaf copies x)
+at_is copies x = by (copy_of_leaf copies x) refl
   where
-    by : (o : Option Placed) → copy_of copies x ≡ o → at_copy copies x ≡ kept_moved x (copy_of copies x)
+    by : (o : Option Placed) → copy_of_leaf copies x ≡ o → at_copy copies x ≡ kept_moved x (copy_of_leaf copies x)
     by None e = rw e refl
     by (Some c) e = rw e refl
 
@@ -68,21 +68,21 @@ block_key ino number (Truncation a size) e = absurd cc
 block_key ino number (Unknown key linked) e = absurd cc
 
 -- a copy of what stands for a node that nobody can read has its key
-stand_in_key : (x : Kept) (j : JournalNode) → stand_in x.leaf.key ≡ Some x.node → shows_told (content_of x.node) j.content ≡ true → x.leaf.key ≡ (leaf_told j).key
+stand_in_key : (x : Kept) (j : JournalNode) → stand_in x.leaf.key ≡ Some x.node → shows_told (node_content_of x.node) j.content ≡ true → x.leaf.key ≡ (leaf_told j).key
 stand_in_key x j = by x.leaf.key
   where
-    by : (key : Key) → stand_in key ≡ Some x.node → shows_told (content_of x.node) j.content ≡ true → key ≡ node_key_told j.content
+    by : (key : Key) → stand_in key ≡ Some x.node → shows_told (node_content_of x.node) j.content ≡ true → key ≡ node_key_told j.content
     by (Ino ino) e same =
         let is : inode (inode_node ino gone_inode) ≡ x.node = cc in
-        inode_key ino j.content (ap (λ (n : LeafNode). shows_told (content_of n) j.content) is ∙ same)
+        inode_key ino j.content (ap (λ (n : LeafNode). shows_told (node_content_of n) j.content) is ∙ same)
     by (BlockKey ino number) e same =
         let is : block (record { ino = ino; block = number; bytes = [] }) ≡ x.node = cc in
-        block_key ino number j.content (ap (λ (n : LeafNode). shows_told (content_of n) j.content) is ∙ same)
+        block_key ino number j.content (ap (λ (n : LeafNode). shows_told (node_content_of n) j.content) is ∙ same)
     by (Dent dir hash) e same = absurd cc
     by (Xent ino hash) e same = absurd cc
 
 module _ (parts : Parts) (references : List RefNode) (named : parts.named ≡ map named_by_reference references) (js : List JournalNode) (copies : Pairwise (NodeTold parts) parts.copies js) where
-  copy_pair : (x : Kept) (r : RecoveredLeaf) → KeptTold parts x r → IfBoth (NodeTold parts) (copy_of parts.copies x) (copy_of_told js r)
+  copy_pair : (x : Kept) (r : RecoveredLeaf) → KeptTold parts x r → IfBoth (NodeTold parts) (copy_of_leaf parts.copies x) (copy_of_told js r)
   copy_pair x r t =
       find_pairs (NodeTold parts) (λ c. (c.sqnum == x.sqnum) && shows_same (shown_by x) (shown c.node)) (λ j. (j.sqnum == r.sqnum) && shows_told r.content j.content) same parts.copies js copies
     where
@@ -97,12 +97,12 @@ module _ (parts : Parts) (references : List RefNode) (named : parts.named ≡ ma
 
   copied_pairs : (lnum : ℕ) (xs : List Kept) (rs : List RecoveredLeaf) → Pairwise (KeptTold parts) xs rs → is_copied parts.copies xs lnum ≡ is_copied_told js rs lnum
   copied_pairs lnum xs rs h =
-      all_pairs (KeptTold parts) (λ x. not (x.leaf.lnum == lnum) || is_some (copy_of parts.copies x)) (λ r. not (r.leaf.lnum == lnum) || is_some (copy_of_told js r)) same xs rs h
+      all_pairs (KeptTold parts) (λ x. not (x.leaf.lnum == lnum) || is_some (copy_of_leaf parts.copies x)) (λ r. not (r.leaf.lnum == lnum) || is_some (copy_of_told js r)) same xs rs h
     where
-      same : (x : Kept) (r : RecoveredLeaf) → KeptTold parts x r → (not (x.leaf.lnum == lnum) || is_some (copy_of parts.copies x)) ≡ (not (r.leaf.lnum == lnum) || is_some (copy_of_told js r))
+      same : (x : Kept) (r : RecoveredLeaf) → KeptTold parts x r → (not (x.leaf.lnum == lnum) || is_some (copy_of_leaf parts.copies x)) ≡ (not (r.leaf.lnum == lnum) || is_some (copy_of_told js r))
       same x r t =
-          ap (λ (l : Leaf). not (l.lnum == lnum) || is_some (copy_of parts.copies x)) (sym t.told.leaf)
-          ∙ ap (λ (b : Bool). not (r.leaf.lnum == lnum) || b) (some_pair (copy_of parts.copies x) (copy_of_told js r) (copy_pair x r t))
+          ap (λ (l : Leaf). not (l.lnum == lnum) || is_some (copy_of_leaf parts.copies x)) (sym t.told.leaf)
+          ∙ ap (λ (b : Bool). not (r.leaf.lnum == lnum) || b) (some_pair (copy_of_leaf parts.copies x) (copy_of_told js r) (copy_pair x r t))
 
   -- a source goes with its leaf: what stands for a node that nobody can read does so at a copy too, which has its key
   source_there : (x : Kept) (r : RecoveredLeaf) (c : Placed) (j : JournalNode) → KeptTold parts x r → NodeTold parts c j → shows_told r.content j.content ≡ true → (o : Option Place) → IsSource parts x o → IsSource parts (record x { leaf = (kept_at c).leaf }) o
@@ -117,7 +117,7 @@ module _ (parts : Parts) (references : List RefNode) (named : parts.named ≡ ma
   moved_pair x r (Some c) None t h same = absurd h
   moved_pair x r (Some c) (Some j) t h same = record { told = record { leaf = node_leaf parts c j h; content = t.told.content; sqnum = t.told.sqnum; source = source_there x r c j t h (same j refl) r.source t.told.source }; shows = t.shows }
 
-  one_pair : (xs : List Kept) (rs : List RecoveredLeaf) → Pairwise (KeptTold parts) xs rs → (x : Kept) (r : RecoveredLeaf) → KeptTold parts x r → KeptTold parts (moved parts xs x) (moved_told references js rs r)
+  one_pair : (xs : List Kept) (rs : List RecoveredLeaf) → Pairwise (KeptTold parts) xs rs → (x : Kept) (r : RecoveredLeaf) → KeptTold parts x r → KeptTold parts (moved_to_its_copy parts xs x) (moved_told references js rs r)
   one_pair xs rs h x r t =
       by (is_named parts.named x.leaf.lnum) (is_named_told references r.leaf.lnum) outside (is_copied parts.copies xs x.leaf.lnum) (is_copied_told js rs r.leaf.lnum) copied
     where
@@ -129,12 +129,12 @@ module _ (parts : Parts) (references : List RefNode) (named : parts.named ≡ ma
 
       by : (a b : Bool) → a ≡ b → (u v : Bool) → u ≡ v → KeptTold parts (cond (not a && u) (at_copy parts.copies x) x) (cond (not b && v) (moved_to_copy r (copy_of_told js r)) r)
       by true true e u v f = t
-      by false false e true true f = subst (λ (k : Kept). KeptTold parts k (moved_to_copy r (copy_of_told js r))) (sym (at_is parts.copies x)) (moved_pair x r (copy_of parts.copies x) (copy_of_told js r) t (copy_pair x r t) (found_shows js r))
+      by false false e true true f = subst (λ (k : Kept). KeptTold parts k (moved_to_copy r (copy_of_told js r))) (sym (at_is parts.copies x)) (moved_pair x r (copy_of_leaf parts.copies x) (copy_of_told js r) t (copy_pair x r t) (found_shows js r))
       by false false e false false f = t
       by false false e true false f = absurd cc
       by false false e false true f = absurd cc
       by true false e u v f = absurd cc
       by false true e u v f = absurd cc
 
-  pub moved_pairs : (xs : List Kept) (rs : List RecoveredLeaf) → Pairwise (KeptTold parts) xs rs → Pairwise (KeptTold parts) (map (moved parts xs) xs) (map (moved_told references js rs) rs)
-  moved_pairs xs rs h = map_pairs (KeptTold parts) (KeptTold parts) (moved parts xs) (moved_told references js rs) (one_pair xs rs h) xs rs h
+  pub moved_pairs : (xs : List Kept) (rs : List RecoveredLeaf) → Pairwise (KeptTold parts) xs rs → Pairwise (KeptTold parts) (map (moved_to_its_copy parts xs) xs) (map (moved_told references js rs) rs)
+  moved_pairs xs rs h = map_pairs (KeptTold parts) (KeptTold parts) (moved_to_its_copy parts xs) (moved_told references js rs) (one_pair xs rs h) xs rs h

@@ -20,7 +20,7 @@ use Rattle.leaf_map.specs.Kept.{node_key, shown}
 use Rattle.leaf_map.specs.LeafMap.{shows_same}
 use Rattle.leaf_map.specs.Parts.{is_shown}
 use Rattle.leaf_map.specs.Recovered.{is_unlinked}
-use Rattle.journal_scan.specs.Content.{content_of}
+use Rattle.journal_scan.specs.Content.{node_content_of}
 use Rattle.journal_scan.specs.declared.node_content.NodeContent.{NodeContent}
 use Rattle.journal_scan.specs.declared.node_content.NodeContent.TheVariants.{Inode, Block, Entry, Truncation, Unknown}
 use Rattle.log_replay.specs.Things.{is_inode_told}
@@ -235,13 +235,13 @@ entry_carried node false true k h = refl
 entry_carried node false false None h = absurd (false≢true h)
 entry_carried node false false (Some kind) h = refl
 
-pub shown_of : (node : LeafNode) → IsLeaf node → shown_told (content_of node) ≡ rough_of (shown node)
+pub shown_of : (node : LeafNode) → IsLeaf node → shown_told (node_content_of node) ≡ rough_of (shown node)
 shown_of (inode node) leaf = inode_shown node (kind_of_bits (bits_of node.mode))
 shown_of (block node) leaf = refl
 shown_of (entry node) leaf = entry_shown node node.attribute (node.inum == 0) (kind_of_type node.kind) (known node.kind leaf.kind_known)
 shown_of (truncation node) leaf = refl
 
-pub carried_of : (node : LeafNode) → IsLeaf node → change_told (content_of node) ≡ rough_of (change_of node)
+pub carried_of : (node : LeafNode) → IsLeaf node → change_told (node_content_of node) ≡ rough_of (change_of node)
 carried_of (inode node) leaf = inode_carried node (node.nlink == 0) (kind_of_bits (bits_of node.mode)) refl
 carried_of (block node) leaf = refl
 carried_of (entry node) leaf = entry_carried node node.attribute (node.inum == 0) (kind_of_type node.kind) (known node.kind leaf.kind_known)
@@ -256,7 +256,7 @@ entry_keyed : (node : DentNode) (a l : Bool)
 entry_keyed node true l = refl
 entry_keyed node false l = refl
 
-pub key_of_is : (node : LeafNode) → node_key_told (content_of node) ≡ node_key node
+pub key_of_is : (node : LeafNode) → node_key_told (node_content_of node) ≡ node_key node
 key_of_is (inode node) = inode_keyed node (is_some (kind_of_bits (bits_of node.mode))) (not (node.nlink == 0))
 key_of_is (block node) = refl
 key_of_is (entry node) = entry_keyed node node.attribute (not (node.inum == 0))

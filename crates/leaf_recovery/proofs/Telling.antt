@@ -10,14 +10,14 @@ use Rattle.group_nodes.specs.Nodes.{change_of}
 use Rattle.leaf_map.specs.Kept.{Kept, Placed, kept_at, shown, shown_by}
 use Rattle.leaf_map.specs.LeafMap.{shows_same}
 use Rattle.leaf_map.specs.Parts.{Committed, Parts, in_bud, is_named, is_own, is_shown, own_node}
-use Rattle.journal_scan.specs.Content.{content_of, told}
+use Rattle.journal_scan.specs.Content.{node_content_of, told}
 use Rattle.journal_scan.specs.declared.node_content.NodeContent.{NodeContent}
 use Rattle.journal_scan.specs.declared.journal_node.JournalNode.{JournalNode}
 use Rattle.log_replay.specs.Replay.{told_committed}
 use Rattle.log_replay.specs.Settling.{HasGrammar}
 use Rattle.log_replay.specs.declared.committed_leaf.CommittedLeaf.{CommittedLeaf}
 use Rattle.leaf_recovery.specs.declared.recovered_leaf.RecoveredLeaf.{RecoveredLeaf}
-use Rattle.leaf_recovery.specs.Found.{is_own_told, leaf_of_node, own_node_told}
+use Rattle.leaf_recovery.specs.Found.{is_own_told, leaf_read, own_node_told}
 use Rattle.leaf_recovery.specs.Named.{in_bud_told, is_named_told, named_by_reference}
 use Rattle.leaf_recovery.specs.Things.{leaf_told, shows_thing, shows_told}
 use Rattle.leaf_recovery.specs.Told.{WasRead, IsLeafTold}
@@ -65,13 +65,13 @@ pub thing_shown : (c : NodeContent) (s : Option Change) → shown_told c ≡ rou
 thing_shown c s h = thing_is c ∙ ap is_shown h ∙ shown_rough s
 
 -- the leaf of a node that was read
-pub kept_node : (parts : Parts) (p : Placed) (j : JournalNode) (leaf : Leaf) → NodeTold parts p j → KeptTold parts (record { leaf = leaf; sqnum = p.sqnum; node = p.node }) (leaf_of_node leaf j)
+pub kept_node : (parts : Parts) (p : Placed) (j : JournalNode) (leaf : Leaf) → NodeTold parts p j → KeptTold parts (record { leaf = leaf; sqnum = p.sqnum; node = p.node }) (leaf_read leaf j)
 kept_node parts p j leaf h =
-    subst (λ (n : JournalNode). KeptTold parts (record { leaf = leaf; sqnum = p.sqnum; node = p.node }) (leaf_of_node leaf n)) (sym h.is)
+    subst (λ (n : JournalNode). KeptTold parts (record { leaf = leaf; sqnum = p.sqnum; node = p.node }) (leaf_read leaf n)) (sym h.is)
     (record { told = record { leaf = refl; content = refl; sqnum = refl; source = (p, h.read, refl, refl) }; shows = shown_of p.node h.leaf })
 
-pub kept_there : (parts : Parts) (p : Placed) (j : JournalNode) → NodeTold parts p j → KeptTold parts (kept_at p) (leaf_of_node (leaf_told j) j)
-kept_there parts p j h = subst (λ (l : Leaf). KeptTold parts (kept_at p) (leaf_of_node l j)) (sym (node_leaf parts p j h)) (kept_node parts p j (kept_at p).leaf h)
+pub kept_there : (parts : Parts) (p : Placed) (j : JournalNode) → NodeTold parts p j → KeptTold parts (kept_at p) (leaf_read (leaf_told j) j)
+kept_there parts p j h = subst (λ (l : Leaf). KeptTold parts (kept_at p) (leaf_read l j)) (sym (node_leaf parts p j h)) (kept_node parts p j (kept_at p).leaf h)
 
 -- ---- references
 pub in_bud_is : (references : List RefNode) (leaf : Leaf) → in_bud_told references leaf ≡ in_bud (map named_by_reference references) leaf
@@ -85,7 +85,7 @@ named_is (b ∷ references) lnum = ap (λ z. (b.lnum == lnum) || z) (named_is re
 -- ---- own nodes
 pub own_is : (references : List RefNode) (leaf : Leaf) (p : Placed) → IsLeaf p.node → is_own_told references leaf (told p) ≡ is_own (map named_by_reference references) leaf p
 own_is references leaf p h =
-    rw (in_bud_is references leaf, thing_shown (content_of p.node) (shown p.node) (shown_of p.node h), told_leaf_is p) refl
+    rw (in_bud_is references leaf, thing_shown (node_content_of p.node) (shown p.node) (shown_of p.node h), told_leaf_is p) refl
 
 pub own_pair : (parts : Parts) (references : List RefNode) (c : Committed) → HasGrammar c → ((p : Placed) → c.found ≡ Some p → WasRead parts p)
     → IfBoth (NodeTold parts) (own_node (map named_by_reference references) c) (own_node_told references (told_committed c))

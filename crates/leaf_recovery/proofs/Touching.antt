@@ -14,7 +14,7 @@ use Rattle.journal_scan.specs.declared.node_content.NodeContent.TheVariants.{Ino
 use Rattle.log_replay.specs.Things.{is_inode_told}
 use Rattle.leaf_recovery.specs.declared.recovered_leaf.RecoveredLeaf.{RecoveredLeaf}
 use Rattle.leaf_recovery.specs.Ranked.{AreInKeyOrder, HasKeyShown, first_ended, fits_key, is_between, leaves_with_rank, past_ended}
-use Rattle.leaf_recovery.specs.Things.{becomes_leaf, ends_told, has_inode_told, is_cut_told, is_part_told, node_key_told, rank_shown}
+use Rattle.leaf_recovery.specs.Things.{becomes_leaf, ends_told, has_inode_told, is_cut_told, is_part_told, node_key_told, rank_of_shown}
 use Rattle.leaf_recovery.proofs.Ranking.{at_place}
 use Rattle.leaf_recovery.proofs.Seeing.{text_is}
 
@@ -43,7 +43,7 @@ block_within a b n r e s h =
     between_is (key_rank (Ino a)) (key_rank (Ino a) + 2 ^ 30) r (omega (arith, e, s, h, i, j)) (omega (arith, e, s, h, i, j))
 
 -- ---- a leaf that goes for another one
-pub ended_there : (c d : NodeContent) (r : ℕ) → r ≡ rank_shown d → becomes_leaf c ≡ true → ends_told c d ≡ true → r ≡ key_rank (node_key_told c)
+pub ended_there : (c d : NodeContent) (r : ℕ) → r ≡ rank_of_shown d → becomes_leaf c ≡ true → ends_told c d ≡ true → r ≡ key_rank (node_key_told c)
 ended_there (Inode a true) (Inode q m) r o s h = o ∙ ap (λ (n : ℕ). key_rank (Ino n)) (eqb-true q a h)
 ended_there (Inode a true) (Block q m) r o s h = absurd (false≢true h)
 ended_there (Inode a true) (Entry q m k) r o s h = absurd (false≢true h)
@@ -69,7 +69,7 @@ ended_there (Truncation a n) d r o s h = absurd (false≢true s)
 ended_there (Unknown key l) d r o s h = absurd (false≢true s)
 
 -- ---- leaves that go
-part_within : (a : ℕ) (d : NodeContent) (r : ℕ) → r ≡ rank_shown d → IsTrue (fits_key d) → is_part_told a d ≡ true → is_between (key_rank (Ino a)) (key_rank (Ino a) + 2 ^ 30) r ≡ true
+part_within : (a : ℕ) (d : NodeContent) (r : ℕ) → r ≡ rank_of_shown d → IsTrue (fits_key d) → is_part_told a d ≡ true → is_between (key_rank (Ino a)) (key_rank (Ino a) + 2 ^ 30) r ≡ true
 part_within a (Inode q m) r o f h = inode_within a q r (eqb-true q a h) o
 part_within a (Block q m) r o f h = block_within a q m r (eqb-true q a h) (ltb-true m (2 ^ 29) f) o
 part_within a (Entry q m k) r o f h = absurd (false≢true h)
@@ -83,7 +83,7 @@ cut_block a size m r cut s h =
     let k = block_rank a (size / 4096) in
     between_is (key_rank (BlockKey a (size / 4096))) (key_rank (Ino a) + 2 ^ 30) r (omega (arith, cut, h, j, k)) (omega (arith, s, h, i, j))
 
-cut_within : (a size : ℕ) (d : NodeContent) (r : ℕ) → r ≡ rank_shown d → IsTrue (fits_key d) → is_cut_told a size d ≡ true → is_between (key_rank (BlockKey a (size / 4096))) (key_rank (Ino a) + 2 ^ 30) r ≡ true
+cut_within : (a size : ℕ) (d : NodeContent) (r : ℕ) → r ≡ rank_of_shown d → IsTrue (fits_key d) → is_cut_told a size d ≡ true → is_between (key_rank (BlockKey a (size / 4096))) (key_rank (Ino a) + 2 ^ 30) r ≡ true
 cut_within a size (Block q m) r o f h =
     let p = and_parts (q == a) (nat_le size (4096 * m)) h in
     cut_block a size m r (leb-true size (4096 * m) p.1) (ltb-true m (2 ^ 29) f) (o ∙ ap (λ (z : ℕ). key_rank (BlockKey z m)) (eqb-true q a p.0))
@@ -95,10 +95,10 @@ cut_within a size (Unknown q m) r o f h = absurd (false≢true h)
 one_between : (n r : ℕ) → r ≡ n → is_between n (n + 1) r ≡ true
 one_between n r e = between_is n (n + 1) r (omega (arith, e)) (omega (arith, e))
 
-name_within : (dir : ℕ) (name : List ℕ) (d : NodeContent) (r : ℕ) → r ≡ rank_shown d → ends_told (Entry dir name false) d ≡ true → is_between (key_rank (Dent dir (r5_of name))) (key_rank (Dent dir (r5_of name)) + 1) r ≡ true
+name_within : (dir : ℕ) (name : List ℕ) (d : NodeContent) (r : ℕ) → r ≡ rank_of_shown d → ends_told (Entry dir name false) d ≡ true → is_between (key_rank (Dent dir (r5_of name))) (key_rank (Dent dir (r5_of name)) + 1) r ≡ true
 name_within dir name d r o h = one_between (key_rank (Dent dir (r5_of name))) r (ended_there (Entry dir name true) d r o refl h)
 
-ended_within : (c d : NodeContent) (r : ℕ) → r ≡ rank_shown d → IsTrue (fits_key d) → becomes_leaf c ≡ false → ends_told c d ≡ true → is_between (first_ended c) (past_ended c) r ≡ true
+ended_within : (c d : NodeContent) (r : ℕ) → r ≡ rank_of_shown d → IsTrue (fits_key d) → becomes_leaf c ≡ false → ends_told c d ≡ true → is_between (first_ended c) (past_ended c) r ≡ true
 ended_within (Inode a true) d r o f s h = absurd (false≢true (sym s))
 ended_within (Inode a false) d r o f s h = part_within a d r o f h
 ended_within (Block a n) d r o f s h = absurd (false≢true (sym s))
@@ -115,7 +115,7 @@ pub leaf_ended_within : (c : NodeContent) → becomes_leaf c ≡ false → (x : 
 leaf_ended_within c s x own h = ended_within c x.content (leaf_rank x.leaf) own.0 own.1 s h
 
 -- what becomes a leaf shows what has its key
-pub becomes_shown : (c : NodeContent) → becomes_leaf c ≡ true → key_rank (node_key_told c) ≡ rank_shown c
+pub becomes_shown : (c : NodeContent) → becomes_leaf c ≡ true → key_rank (node_key_told c) ≡ rank_of_shown c
 becomes_shown (Inode a l) s = refl
 becomes_shown (Block a n) s = refl
 becomes_shown (Entry dir name l) s = refl
@@ -123,7 +123,7 @@ becomes_shown (Truncation a n) s = absurd (false≢true s)
 becomes_shown (Unknown key l) s = refl
 
 -- ---- whether an inode is there
-inode_shown : (ino : ℕ) (d : NodeContent) → is_inode_told ino d ≡ true → rank_shown d ≡ key_rank (Ino ino)
+inode_shown : (ino : ℕ) (d : NodeContent) → is_inode_told ino d ≡ true → rank_of_shown d ≡ key_rank (Ino ino)
 inode_shown ino (Inode q m) h = ap (λ (n : ℕ). key_rank (Ino n)) (eqb-true q ino h)
 inode_shown ino (Block q m) h = absurd (false≢true h)
 inode_shown ino (Entry q m k) h = absurd (false≢true h)

@@ -8,7 +8,7 @@ use Rattle.media_sys.specs.declared.ref_node.RefNode.{RefNode}
 use Rattle.leaf_map.specs.Kept.{Kept, Placed}
 use Rattle.leaf_map.specs.Lost.{empty_names, have_same_name, is_read_name, is_renamed, lost_leaves, missing_leaves, unnamed}
 use Rattle.leaf_map.specs.Parts.{Committed, Named, Parts, is_linked_unknown, shows_nothing}
-use Rattle.leaf_map.specs.Recovered.{found_leaves, in_order, is_original, leaves_after, leaves_found, leaves_left, listed_left, placed_node, recovered_of}
+use Rattle.leaf_map.specs.Recovered.{found_leaves, nodes_in_order, is_original, leaves_after, leaves_found, leaves_left, listed_left, placed_node, recovered_of}
 use Rattle.journal_scan.specs.Content.{told}
 use Rattle.journal_scan.specs.declared.journal_node.JournalNode.{JournalNode}
 use Rattle.log_replay.specs.Replay.{told_committed}
@@ -72,10 +72,10 @@ module _ (parts : Parts) (ls : List CommittedLeaf) (references : List RefNode) (
   told_good : (p : Placed) → IsGood p → NodeTold parts p (told p)
   told_good p h = record { is = refl; leaf = h.0; read = h.1 }
 
-  pub nodes : Pairwise (NodeTold parts) (in_order parts.nodes) ns
+  pub nodes : Pairwise (NodeTold parts) (nodes_in_order parts.nodes) ns
   nodes =
-      subst (Pairwise (NodeTold parts) (in_order parts.nodes)) (sym is.of_nodes)
-      (told_pairs (NodeTold parts) IsGood told told_good (in_order parts.nodes)
+      subst (Pairwise (NodeTold parts) (nodes_in_order parts.nodes)) (sym is.of_nodes)
+      (told_pairs (NodeTold parts) IsGood told told_good (nodes_in_order parts.nodes)
       (order_all IsGood [] parts.nodes (all_both (λ p. IsLeaf p.node) (WasRead parts) parts.nodes is.node_nodes (all_more (λ p. IsOneNode p parts.nodes) (WasRead parts) (λ p h. inr (inl h)) parts.nodes (each_one parts.nodes))) tt))
 
   pub copies : Pairwise (NodeTold parts) parts.copies cs
@@ -116,8 +116,8 @@ module _ (parts : Parts) (ls : List CommittedLeaf) (references : List RefNode) (
   left : Pairwise (KeptTold parts) (leaves_left parts) (leaves_left_told (leaves_found_told references ls cs) ns (listed_left_told references ls listed))
   left =
       subst (λ (l : List ℕ). Pairwise (KeptTold parts) (leaves_left parts) (leaves_left_told (leaves_found_told references ls cs) ns l)) bare
-      (orphans_pairs parts (listed_left parts) (leaves_after (leaves_found parts) (in_order parts.nodes)) (fold kept_after_told (leaves_found_told references ls cs) ns)
-      (nodes_pairs parts (in_order parts.nodes) ns nodes (leaves_found parts) (leaves_found_told references ls cs) found))
+      (orphans_pairs parts (listed_left parts) (leaves_after (leaves_found parts) (nodes_in_order parts.nodes)) (fold kept_after_told (leaves_found_told references ls cs) ns)
+      (nodes_pairs parts (nodes_in_order parts.nodes) ns nodes (leaves_found parts) (leaves_found_told references ls cs) found))
 
   kept : Pairwise (KeptTold parts) (recovered_of parts).kept (recovered_told references ls ns cs listed)
   kept = moved_pairs parts references is.of_references cs copies (leaves_left parts) (leaves_left_told (leaves_found_told references ls cs) ns (listed_left_told references ls listed)) left
@@ -129,26 +129,26 @@ module _ (parts : Parts) (ls : List CommittedLeaf) (references : List RefNode) (
   lost : Pairwise (LeafTold parts) (lost_leaves refs (spare_of refs) parts.committed) (lost_told references ls cs)
   lost = lost_all parts references parts.committed ls (spare_of refs) (spare_copies_told references ls cs) leaves spare
 
-  lost_pairs : Pairwise (LostTold refs (in_order parts.nodes)) (lost_leaves refs (spare_of refs) parts.committed) (map (lost_leaf_told references ns) (lost_told references ls cs))
-  lost_pairs = lost_kept parts references (in_order parts.nodes) ns nodes (lost_leaves refs (spare_of refs) parts.committed) (lost_told references ls cs) lost
+  lost_pairs : Pairwise (LostTold refs (nodes_in_order parts.nodes)) (lost_leaves refs (spare_of refs) parts.committed) (map (lost_leaf_told references ns) (lost_told references ls cs))
+  lost_pairs = lost_kept parts references (nodes_in_order parts.nodes) ns nodes (lost_leaves refs (spare_of refs) parts.committed) (lost_told references ls cs) lost
 
   -- the nodes that may stand for names, where these are named
   abbrev names_of : List Named → List Placed
-  names_of named = filter (λ y. not (is_read_name named parts.committed y) && not (list_any (λ k. have_same_name k.node y.node) (leaves_found parts))) (in_order parts.nodes)
+  names_of named = filter (λ y. not (is_read_name named parts.committed y) && not (list_any (λ k. have_same_name k.node y.node) (leaves_found parts))) (nodes_in_order parts.nodes)
 
   names : Pairwise (NodeTold parts) (names_of refs) (spare_names_told references ls (leaves_found_told references ls cs) ns)
-  names = names_pairs parts references (in_order parts.nodes) ns nodes parts.committed ls leaves (leaves_found parts) (leaves_found_told references ls cs) found
+  names = names_pairs parts references (nodes_in_order parts.nodes) ns nodes parts.committed ls leaves (leaves_found parts) (leaves_found_told references ls cs) found
 
   missing : missing_told references ls ns cs ≡ missing_leaves parts
   missing =
-      unnamed_is parts references (in_order parts.nodes) ns nodes (lost_leaves refs (spare_of refs) parts.committed) (map (lost_leaf_told references ns) (lost_told references ls cs)) lost_pairs
+      unnamed_is parts references (nodes_in_order parts.nodes) ns nodes (lost_leaves refs (spare_of refs) parts.committed) (map (lost_leaf_told references ns) (lost_told references ls cs)) lost_pairs
       (names_of refs) (spare_names_told references ls (leaves_found_told references ls cs) ns) names
       ∙ ap (λ (n : List Named). unnamed n (names_of n) (lost_leaves n (spare_of n) parts.committed)) (sym is.of_references)
 
   empty : empty_names_told references ls ns cs ≡ empty_names parts
   empty =
-      empty_names_is parts references (in_order parts.nodes) ns nodes (lost_leaves refs (spare_of refs) parts.committed) (map (lost_leaf_told references ns) (lost_told references ls cs)) lost_pairs
-      ∙ ap (λ (n : List Named). map (λ (x : Committed). x.leaf) (filter (λ x. shows_nothing n x && not (is_renamed (in_order parts.nodes) x)) (lost_leaves n (spare_of n) parts.committed))) (sym is.of_references)
+      empty_names_is parts references (nodes_in_order parts.nodes) ns nodes (lost_leaves refs (spare_of refs) parts.committed) (map (lost_leaf_told references ns) (lost_told references ls cs)) lost_pairs
+      ∙ ap (λ (n : List Named). map (λ (x : Committed). x.leaf) (filter (λ x. shows_nothing n x && not (is_renamed (nodes_in_order parts.nodes) x)) (lost_leaves n (spare_of n) parts.committed))) (sym is.of_references)
 
   told_of : (xs : List Kept) (rs : List RecoveredLeaf) → Pairwise (KeptTold parts) xs rs → AreLeavesTold parts xs rs
   told_of xs rs h = weaker_pairs (KeptTold parts) (IsLeafTold parts) (λ x r t. t.told) xs rs h

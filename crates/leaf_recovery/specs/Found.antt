@@ -20,12 +20,12 @@ abbrev pub place_told : JournalNode → Place
 place_told node = record { lnum = node.lnum; offs = node.offs; len = node.len }
 
 -- a leaf whose node was read
-abbrev pub leaf_of_node : Leaf → JournalNode → RecoveredLeaf
-leaf_of_node leaf node = record { leaf = leaf; content = node.content; sqnum = node.sqnum; source = Some (place_told node) }
+abbrev pub leaf_read : Leaf → JournalNode → RecoveredLeaf
+leaf_read leaf node = record { leaf = leaf; content = node.content; sqnum = node.sqnum; source = Some (place_told node) }
 
 -- the leaf that a node becomes where it stands
 abbrev pub leaf_at_node : JournalNode → RecoveredLeaf
-leaf_at_node node = leaf_of_node (leaf_told node) node
+leaf_at_node node = leaf_read (leaf_told node) node
 
 -- whether a node is a leaf's own
 abbrev pub is_own_told : List RefNode → Leaf → JournalNode → Bool
@@ -71,7 +71,7 @@ leaf_at_copy leaf (Some copy) = Some (leaf_at_node copy)
 
 -- the leaf that is found for a committed one, out of some copies
 abbrev pub leaf_found_told : List JournalNode → CommittedLeaf → Option JournalNode → Option RecoveredLeaf
-leaf_found_told copies x (Some own) = Some (leaf_of_node x.leaf own)
+leaf_found_told copies x (Some own) = Some (leaf_read x.leaf own)
 leaf_found_told copies x None = leaf_at_copy x.leaf (copy_of_key_told x.leaf copies)
 
 -- the copies that are left where this one was given to a leaf

@@ -13,7 +13,7 @@ use Rattle.journal_scan.specs.declared.journal_node.JournalNode.{JournalNode}
 use Rattle.journal_scan.specs.declared.node_content.NodeContent.{NodeContent}
 use Rattle.journal_scan.specs.declared.node_content.NodeContent.TheVariants.{Inode, Block, Entry, Truncation, Unknown}
 use Rattle.leaf_recovery.specs.declared.recovered_leaf.RecoveredLeaf.{RecoveredLeaf}
-use Rattle.leaf_recovery.specs.Things.{has_inode_told, rank_shown}
+use Rattle.leaf_recovery.specs.Things.{has_inode_told, rank_of_shown}
 
 -- whether a number of a block has the 29 bits that a key has for it
 abbrev pub fits_key : NodeContent → Bool
@@ -22,7 +22,7 @@ fits_key other = true
 
 -- a leaf has the key of what it shows
 abbrev pub HasKeyShown : RecoveredLeaf → Type 0
-HasKeyShown x = (leaf_rank x.leaf ≡ rank_shown x.content) × IsTrue (fits_key x.content)
+HasKeyShown x = (leaf_rank x.leaf ≡ rank_of_shown x.content) × IsTrue (fits_key x.content)
 
 -- leaves have the keys of what they show, and these never fall, from a place in the order on
 abbrev pub AreInKeyOrder : ℕ → List RecoveredLeaf → Type 0

@@ -5,7 +5,7 @@ use Rattle.leaf_map.specs.Kept.{Kept, shown_by}
 use Rattle.leaf_map.specs.LeafMap.{shows_same}
 use Rattle.journal_scan.specs.declared.node_content.NodeContent.{NodeContent}
 use Rattle.leaf_recovery.specs.declared.recovered_leaf.RecoveredLeaf.{RecoveredLeaf}
-use Rattle.leaf_recovery.specs.Things.{rank_shown, shows_told}
+use Rattle.leaf_recovery.specs.Things.{rank_of_shown, shows_told}
 
 -- those behind some leaves that show what one before them shows
 abbrev pub repeated_behind : List Kept → List Kept → List Kept
@@ -25,10 +25,10 @@ repeated_behind_told before (x ∷ kept) =
 
 -- something has a key, and what stands behind it has greater ones, up to the first that has; before that stands nothing that is shown by it
 abbrev pub IsFoundAhead : NodeContent → List RecoveredLeaf → Type 0
-IsFoundAhead content [] = 0 < rank_shown content
+IsFoundAhead content [] = 0 < rank_of_shown content
 IsFoundAhead content (y ∷ leaves) =
-    ((0 < rank_shown content) × (rank_shown content < rank_shown y.content))
-    ⊎ ((rank_shown content ≡ rank_shown y.content) × IsFalse (shows_told content y.content) × IsFoundAhead content leaves)
+    ((0 < rank_of_shown content) × (rank_of_shown content < rank_of_shown y.content))
+    ⊎ ((rank_of_shown content ≡ rank_of_shown y.content) × IsFalse (shows_told content y.content) × IsFoundAhead content leaves)
 
 -- none of these leaves shows what one before it shows
 abbrev pub RepeatNothing : List RecoveredLeaf → Type 0

@@ -23,9 +23,9 @@ node_key_told (Truncation ino size) = Ino ino
 node_key_told (Unknown key linked) = key
 
 -- the place in the order of the key of what a node shows, if that isn't what is behind a size
-abbrev pub rank_shown : NodeContent → ℕ
-rank_shown (Truncation ino size) = 0
-rank_shown content = key_rank (node_key_told content)
+abbrev pub rank_of_shown : NodeContent → ℕ
+rank_of_shown (Truncation ino size) = 0
+rank_of_shown content = key_rank (node_key_told content)
 
 -- the leaf that a node becomes where it stands
 abbrev pub leaf_told : JournalNode → Leaf

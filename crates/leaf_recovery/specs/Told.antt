@@ -6,8 +6,8 @@ use Rattle.media_sys.specs.declared.ref_node.RefNode.{RefNode}
 use Rattle.leaf_map.specs.Kept.{Kept, Placed}
 use Rattle.leaf_map.specs.Lost.{empty_names, missing_leaves}
 use Rattle.leaf_map.specs.Parts.{Committed, Parts}
-use Rattle.leaf_map.specs.Recovered.{in_order, leaves_found, recovered_of, stand_in}
-use Rattle.journal_scan.specs.Content.{content_of, told}
+use Rattle.leaf_map.specs.Recovered.{nodes_in_order, leaves_found, recovered_of, stand_in}
+use Rattle.journal_scan.specs.Content.{node_content_of, told}
 use Rattle.journal_scan.specs.declared.journal_node.JournalNode.{JournalNode}
 use Rattle.log_replay.specs.Replay.{told_committed}
 use Rattle.log_replay.specs.Settling.{HasGrammar}
@@ -23,7 +23,7 @@ use Rattle.leaf_recovery.specs.Repeated.{repeated_leaves}
 pub record AreTold (parts : Parts) (committed : List CommittedLeaf) (references : List RefNode) (nodes copies : List JournalNode) (listed : List ℕ) : Type 0 where
   pub of_leaves : committed ≡ map told_committed parts.committed
   pub of_references : parts.named ≡ map named_by_reference references
-  pub of_nodes : nodes ≡ map told (in_order parts.nodes)
+  pub of_nodes : nodes ≡ map told (nodes_in_order parts.nodes)
   pub of_copies : copies ≡ map told parts.copies
   pub of_list : parts.listed ≡ listed
   pub leaf_nodes : AllByRecursion HasGrammar parts.committed
@@ -64,7 +64,7 @@ IsSource parts x (Some place) = (node : Placed) × WasRead parts node × (place 
 -- this is told of a leaf after recovery
 pub record IsLeafTold (parts : Parts) (x : Kept) (r : RecoveredLeaf) : Type 0 where
   pub leaf : r.leaf ≡ x.leaf
-  pub content : r.content ≡ content_of x.node
+  pub content : r.content ≡ node_content_of x.node
   pub sqnum : r.sqnum ≡ x.sqnum
   pub source : IsSource parts x r.source
 

@@ -1,7 +1,7 @@
 // Each committed leaf is found at its own node or at its copy.
 
 ghost use Rattle.std.specs.Prelude.{◌≡◌, map, IfOk, OnOk};
-ghost use Rattle.leaf_recovery.specs.Found.{copies_left_told, copy_of_key_told, found_leaves_told, leaf_at_copy, leaf_at_node, leaf_found_told, leaf_of_node, left_behind, lost_leaves_told, own_node_told, unread_leaf};
+ghost use Rattle.leaf_recovery.specs.Found.{copies_left_told, copy_of_key_told, found_leaves_told, leaf_at_copy, leaf_at_node, leaf_found_told, leaf_read, left_behind, lost_leaves_told, own_node_told, unread_leaf};
 ghost use Rattle.leaf_recovery.specs.Lost.{lost_leaf_told};
 
 use crate::copies::{copy_of_key, drop_shown, is_own};
@@ -67,7 +67,7 @@ fn find_leaf(
 
 // A leaf whose node was read.
 fn leaf_of_node(alloc: Global, leaf: Leaf, node: &JournalNode) -> Result<RecoveredLeaf, Memory>
-    ensures { IfOk result (λ found. found ≡ leaf_of_node leaf node.now) }
+    ensures { IfOk result (λ found. found ≡ leaf_read leaf node.now) }
 {
     let content = copied(alloc, &node.content)?;
     Ok(RecoveredLeaf {

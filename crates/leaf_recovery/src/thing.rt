@@ -2,7 +2,7 @@
 
 ghost use Rattle.std.specs.Prelude.{◌≡◌, IfOk};
 ghost use Rattle.leaf_recovery.specs.Found.{place_told};
-ghost use Rattle.leaf_recovery.specs.Things.{becomes_leaf, ends_told, is_cut_told, is_entry_told, is_part_told, is_unlinked_told, leaf_told, node_key_told, rank_shown, same_name_told, shows_thing, shows_told};
+ghost use Rattle.leaf_recovery.specs.Things.{becomes_leaf, ends_told, is_cut_told, is_entry_told, is_part_told, is_unlinked_told, leaf_told, node_key_told, rank_of_shown, same_name_told, shows_thing, shows_told};
 
 use crate::recovered_leaf::Place;
 use index_tree::Leaf;
@@ -35,7 +35,7 @@ pub(crate) fn key_of(content: &NodeContent) -> Key
 
 // The place in the order of the key of what a node shows, if that isn't what is behind a size; else 0.
 pub(crate) fn rank_shown(content: &NodeContent) -> u128
-    ensures { result ≡ rank_shown content.now }
+    ensures { result ≡ rank_of_shown content.now }
 {
     match content {
         NodeContent::Truncation { .. } => 0,

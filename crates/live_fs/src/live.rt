@@ -3,9 +3,9 @@
 ghost use Rattle.std.specs.Prelude.{◌≡◌, ◌⊎◌, ℕ, ◌<◌, ◌^◌, true, All, IfSome, length};
 ghost use Rattle.fs_laws.specs.Sound.{IsCall};
 ghost use Rattle.live_fs.specs.Steps.{WasAnswered, WasDrained};
-ghost use Rattle.traced_files.specs.Calls.{AreLegal, IsClosedHistory, IsEntered, IsUndone, StandsIn};
+ghost use Rattle.traced_files.specs.Calls.{AreLinesLegal, IsClosedHistory, IsEntered, IsUndone, StandsInTrace};
 ghost use Rattle.traced_files.specs.Start.{IsNewLedger};
-ghost use Rattle.traced_files.specs.States.{PassState};
+ghost use Rattle.traced_files.specs.States.{TracedPassState};
 ghost use Rattle.vfs_ops.specs.declared.event.Event.TheVariants.{Drain, Pick, Put, Refill};
 ghost use Rattle.vfs_ops.specs.Background.{is_work};
 ghost use Rattle.vfs_ops.specs.Fs.{files_state};
@@ -139,8 +139,8 @@ impl<B: Backing, K: StopKind, J: Site> Live<B, K, J> {
     pub fn close(self, passes: Vec<Pass>) -> Closed<B>
         requires { All (λ p. p.word ≡ J.word) passes.items }
         ensures history { IsClosedHistory J.start result.trace.items (files_state result.fs) (B.outlook result.fs.backing) }
-        ensures legal { AreLegal J.start result.trace.items (files_state result.fs) (B.outlook result.fs.backing) }
-        ensures passes { All (λ p. StandsIn result.trace.items p) passes.items }
+        ensures legal { AreLinesLegal J.start result.trace.items (files_state result.fs) (B.outlook result.fs.backing) }
+        ensures passes { All (λ p. StandsInTrace result.trace.items p) passes.items }
         ensures credits { (files_state result.fs).backing.space.credits ≡ length (files_state result.fs).kept.pages.dirty }
     {
         let Live {

@@ -18,8 +18,8 @@ use Rattle.leaf_map.specs.Follows.{block_key_from, last_block_key}
 use Rattle.leaf_map.specs.Kept.{Kept}
 use Rattle.leaf_map.specs.LeafMap.{HasKeyOf, IsKeyed}
 use Rattle.leaf_map.specs.RankLaws.{rank_is}
-use Rattle.log_replay.specs.Changes.{IsOfKey, first_of}
-use Rattle.log_replay.specs.Standing.{is_name, leaves}
+use Rattle.log_replay.specs.Changes.{IsOfKey, first_of_key}
+use Rattle.log_replay.specs.Standing.{is_name_shown, leaves}
 use Rattle.log_replay.proofs.Maps.{place}
 use Rattle.log_replay.proofs.Tests.{name_is}
 
@@ -73,7 +73,7 @@ block_at ino number bytes n x (Some (SetEntry e)) h = let small = r5_small e.nam
 block_at ino number bytes n x s h = absurd h
 
 -- ---- what is found
-pub first_is : (k : Key) (test : Kept → Bool) (kept : List Kept) → AllByRecursion IsKeyed kept → ((x : Kept) → IsKeyed x → (leaf_rank x.leaf == key_rank k) ≡ test x) → first_of k (leaves kept) ≡ place (find test kept)
+pub first_is : (k : Key) (test : Kept → Bool) (kept : List Kept) → AllByRecursion IsKeyed kept → ((x : Kept) → IsKeyed x → (leaf_rank x.leaf == key_rank k) ≡ test x) → first_of_key k (leaves kept) ≡ place (find test kept)
 first_is k test [] keyed h = refl
 first_is k test (x ∷ kept) keyed h = rw (h x keyed.0) (by (test x) (first_is k test kept keyed.1 h))
   where
@@ -115,7 +115,7 @@ block_key ino number bytes x (Some (SetBlock other at old)) h t =
     h.0 ∙ ap (λ (n : ℕ). Block n at) (eqb-true other ino p.0) ∙ ap (λ (n : ℕ). Block ino n) (eqb-true at number p.1)
 block_key ino number bytes x s h t = absurd (false≢true t)
 
-pub name_key : (q : ℕ × List ℕ) (x : Leaf) (s : Option Change) → HasKeyOf x s → is_name q s ≡ true → x.key ≡ Dent q.0 (r5_of q.1)
+pub name_key : (q : ℕ × List ℕ) (x : Leaf) (s : Option Change) → HasKeyOf x s → is_name_shown q s ≡ true → x.key ≡ Dent q.0 (r5_of q.1)
 name_key q x (Some (SetEntry e)) h t = h ∙ ap (λ (k : ℕ × List ℕ). Dent k.0 (r5_of k.1)) (name_is q e t)
 name_key q x s h t = absurd (false≢true t)
 

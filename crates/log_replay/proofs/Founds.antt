@@ -19,8 +19,8 @@ use Rattle.leaf_map.specs.Kept.{Kept, Placed, kept_at, shown_by}
 use Rattle.leaf_map.specs.LeafMap.{HasKeyOf, IsKeyed}
 use Rattle.leaf_map.specs.Parts.{Committed, Parts, own_node}
 use Rattle.leaf_map.specs.RankLaws.{key_of_place}
-use Rattle.leaf_map.specs.Recovered.{copies_left, copy_of_key, found_leaves, leaf_at, stand_in}
-use Rattle.log_replay.specs.Placing.{LeafFound, IsFoundWell, IsSound, is_key, pair_found, pair_told, present}
+use Rattle.leaf_map.specs.Recovered.{copies_left, copy_of_key, found_leaves, leaf_found_for, stand_in}
+use Rattle.log_replay.specs.Placing.{LeafFound, IsFoundWell, IsLeafSound, is_key, pair_found, pair_told, present_leaves}
 use Rattle.log_replay.specs.Settling.{kept_of, read_as, settled_at, settled_of, settled_one}
 use Rattle.log_replay.specs.Told.{told_leaf}
 use Rattle.log_replay.proofs.Ranked.{found_rank}
@@ -43,26 +43,26 @@ abbrev pub with_one : Option Kept → List Kept → List Kept
 with_one None kept = kept
 with_one (Some x) kept = x ∷ kept
 
-pub leaf_found : (left : List Placed) (c : Committed) (own : Option Placed) (rest : List Kept) → with_one (found_as left c own) rest ≡ leaf_at left c own ++ rest
+pub leaf_found : (left : List Placed) (c : Committed) (own : Option Placed) (rest : List Kept) → with_one (found_as left c own) rest ≡ leaf_found_for left c own ++ rest
 leaf_found left c (Some own) rest = refl
 leaf_found left c None rest = by (copy_of_key c.leaf left) refl
   where
-    stand : (s : Option LeafNode) → stand_in c.leaf.key ≡ s → copy_of_key c.leaf left ≡ None → with_one (kept_of c None) rest ≡ leaf_at left c None ++ rest
+    stand : (s : Option LeafNode) → stand_in c.leaf.key ≡ s → copy_of_key c.leaf left ≡ None → with_one (kept_of c None) rest ≡ leaf_found_for left c None ++ rest
     stand None s f = rw (f, s) refl
     stand (Some node) s f = rw (f, s) refl
 
-    by : (d : Option Placed) → copy_of_key c.leaf left ≡ d → with_one (at_copy c (copy_of_key c.leaf left)) rest ≡ leaf_at left c None ++ rest
+    by : (d : Option Placed) → copy_of_key c.leaf left ≡ d → with_one (at_copy c (copy_of_key c.leaf left)) rest ≡ leaf_found_for left c None ++ rest
     by (Some d) f = rw f refl
     by None f = ap (λ (z : Option Placed). with_one (at_copy c z) rest) f ∙ stand (stand_in c.leaf.key) refl f
 
-pub present_one : (f : LeafFound) (fs : List LeafFound) → present (f ∷ fs) ≡ with_one f.kept (present fs)
+pub present_one : (f : LeafFound) (fs : List LeafFound) → present_leaves (f ∷ fs) ≡ with_one f.kept (present_leaves fs)
 present_one f fs = by f.kept
   where
-    by : (k : Option Kept) → present (record { leaf = f.leaf; kept = k } ∷ fs) ≡ with_one k (present fs)
+    by : (k : Option Kept) → present_leaves (record { leaf = f.leaf; kept = k } ∷ fs) ≡ with_one k (present_leaves fs)
     by None = refl
     by (Some x) = refl
 
-pub found_present : (parts : Parts) (left : List Placed) (cs : List Committed) → present (founds parts left cs) ≡ found_leaves parts.named left cs
+pub found_present : (parts : Parts) (left : List Placed) (cs : List Committed) → present_leaves (founds parts left cs) ≡ found_leaves parts.named left cs
 found_present parts left [] = refl
 found_present parts left (c ∷ cs) =
     let own = own_node parts.named c in
@@ -112,7 +112,7 @@ true_keys cs xs e h = by cs (recursion_from_All HasKey (map (λ c. c.leaf) cs) (
     by [] a = tt
     by (c ∷ cs) a = (a.0, by cs a.1)
 
-one_well : (left : List Placed) (c : Committed) (own : Option Placed) → IsKey c.leaf.key → (x : Kept) → IsKeyed x → found_as left c own ≡ Some x → IsSound c.leaf x
+one_well : (left : List Placed) (c : Committed) (own : Option Placed) → IsKey c.leaf.key → (x : Kept) → IsKeyed x → found_as left c own ≡ Some x → IsLeafSound c.leaf x
 one_well left c own t x k e = record { keyed = k; key = by own e; is_key = key_fits c.leaf.key t }
   where
     stand : (s : Option LeafNode) → option_map (λ (node : LeafNode). record { leaf = c.leaf; sqnum = 0; node = node }) s ≡ Some x → x.leaf.key ≡ c.leaf.key
@@ -130,7 +130,7 @@ one_well left c own t x k e = record { keyed = k; key = by own e; is_key = key_f
     by (Some own) f = let same : record { leaf = c.leaf; sqnum = own.sqnum; node = own.node } ≡ x = cc in ap (λ (y : Kept). y.leaf.key) (sym same)
     by None f = copy (copy_of_key c.leaf left) refl f
 
-pub found_well : (parts : Parts) (left : List Placed) (cs : List Committed) → HaveTrueKeys cs → AllByRecursion IsKeyed (present (founds parts left cs)) → AllByRecursion IsFoundWell (founds parts left cs)
+pub found_well : (parts : Parts) (left : List Placed) (cs : List Committed) → HaveTrueKeys cs → AllByRecursion IsKeyed (present_leaves (founds parts left cs)) → AllByRecursion IsFoundWell (founds parts left cs)
 found_well parts left [] t k = tt
 found_well parts left (c ∷ cs) t k = by (λ a. found_well parts (copies_left left c (own_node parts.named c)) cs t.1 a) (found_as left c own) refl (subst (AllByRecursion IsKeyed) (present_one (record { leaf = c.leaf; kept = found_as left c own }) rest) k)
   where
@@ -140,6 +140,6 @@ found_well parts left (c ∷ cs) t k = by (λ a. found_well parts (copies_left l
     rest : List LeafFound
     rest = founds parts (copies_left left c own) cs
 
-    by : (AllByRecursion IsKeyed (present rest) → AllByRecursion IsFoundWell rest) → (k : Option Kept) → found_as left c own ≡ k → AllByRecursion IsKeyed (with_one k (present rest)) → AllByRecursion IsFoundWell (record { leaf = c.leaf; kept = found_as left c own } ∷ rest)
+    by : (AllByRecursion IsKeyed (present_leaves rest) → AllByRecursion IsFoundWell rest) → (k : Option Kept) → found_as left c own ≡ k → AllByRecursion IsKeyed (with_one k (present_leaves rest)) → AllByRecursion IsFoundWell (record { leaf = c.leaf; kept = found_as left c own } ∷ rest)
     by more None e a = (rw e tt, more a)
     by more (Some x) e a = (rw e (one_well left c own t.0 x a.0 e), more a.1)

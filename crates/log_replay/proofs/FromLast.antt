@@ -20,8 +20,8 @@ use Rattle.log_replay.specs.declared.read_leaf.ReadLeaf.{ReadLeaf}
 use Rattle.log_replay.specs.declared.standing.Standing.{Standing}
 use Rattle.log_replay.specs.Changes.{IsHeavier, place_of_node}
 use Rattle.log_replay.specs.Noting.{Notes, Says}
-use Rattle.log_replay.specs.Placing.{ArePlaced, AreSettled, LeafFound, IsFoundWell, IsSound, Places, moved_to, pair_found, pair_told, present}
-use Rattle.log_replay.specs.Standing.{leaf_at, leaves, leaves_in}
+use Rattle.log_replay.specs.Placing.{ArePlaced, AreSettled, LeafFound, IsFoundWell, IsLeafSound, Places, moved_to, pair_found, pair_told, present_leaves}
+use Rattle.log_replay.specs.Standing.{leaf_of_key, leaves, leaves_in}
 use Rattle.log_replay.specs.Told.{told_leaf}
 use Rattle.log_replay.proofs.Noted.{says_more}
 use Rattle.log_replay.proofs.OneNode.{same_links, same_places}
@@ -93,10 +93,10 @@ pub record Placing (found : List LeafFound) (items : List ReadLeaf) (s : Standin
   pub back : List LeafFound
   pub split : found ≡ front ++ back
   pub told : map pair_told items ≡ map pair_found front
-  pub in_index : leaves_in s ≡ places_of front ++ leaves (present back)
+  pub in_index : leaves_in s ≡ places_of front ++ leaves (present_leaves back)
   pub distinct : AreDistinct (places_of front)
   pub well : AllByRecursion IsFoundWell front
-  pub says : Says (present back) s
+  pub says : Says (present_leaves back) s
 
 last_well : (first : List LeafFound) (last : LeafFound) → AllByRecursion IsFoundWell (first ++ last ∷ []) → IsFoundWell last
 last_well [] last a = a.0
@@ -110,31 +110,31 @@ says_same : (kept : List Kept) (s t : Standing) → t.inodes ≡ s.inodes → t.
 says_same kept s t e f says = record { inodes = λ q. same_links s t e q ∙ says.inodes q; names = λ q. same_places s t f q ∙ says.names q }
 
 record OnePlaced (back : List LeafFound) (xs : List Leaf) (last : LeafFound) (t : Standing) : Type 0 where
-  in_index : leaves_in t ≡ xs ++ leaves (present (last ∷ back))
-  says : Says (present (last ∷ back)) t
+  in_index : leaves_in t ≡ xs ++ leaves (present_leaves (last ∷ back))
+  says : Says (present_leaves (last ∷ back)) t
 
-one_placed : (back : List LeafFound) (xs : List Leaf) (last : LeafFound) (read : ReadLeaf) (s t : Standing) → Beside last.leaf xs → IsFoundWell last → pair_told read ≡ pair_found last → leaves_in s ≡ xs ++ last.leaf ∷ leaves (present back)
-    → Says (present back) s → Places read s t → OnePlaced back xs last t
+one_placed : (back : List LeafFound) (xs : List Leaf) (last : LeafFound) (read : ReadLeaf) (s t : Standing) → Beside last.leaf xs → IsFoundWell last → pair_told read ≡ pair_found last → leaves_in s ≡ xs ++ last.leaf ∷ leaves (present_leaves back)
+    → Says (present_leaves back) s → Places read s t → OnePlaced back xs last t
 one_placed back xs last read s t beside well e i says p = by last.kept well (ap (λ (z : Leaf × Option JournalNode). z.1) e)
   where
     leaf : read.leaf ≡ last.leaf
     leaf = ap (λ (z : Leaf × Option JournalNode). z.0) e
 
-    by : (k : Option Kept) → MatchOption k (Unit {0}) (IsSound last.leaf) → read.node ≡ option_map told_leaf k → OnePlaced back xs (record { leaf = last.leaf; kept = k }) t
+    by : (k : Option Kept) → MatchOption k (Unit {0}) (IsLeafSound last.leaf) → read.node ≡ option_map told_leaf k → OnePlaced back xs (record { leaf = last.leaf; kept = k }) t
     by None w n =
         let q : (leaves_in t ≡ without read.leaf (leaves_in s)) × (t.inodes ≡ s.inodes) × (t.names ≡ s.names) = subst (λ (o : Option JournalNode). Places (record read { node = o }) s t) n p in
         record {
-          in_index = q.0 ∙ ap (λ (l : Leaf). without l (leaves_in s)) leaf ∙ ap (without last.leaf) i ∙ without_last xs (leaves (present back)) last.leaf beside;
-          says = says_same (present back) s t q.1 q.2 says;
+          in_index = q.0 ∙ ap (λ (l : Leaf). without l (leaves_in s)) leaf ∙ ap (without last.leaf) i ∙ without_last xs (leaves (present_leaves back)) last.leaf beside;
+          says = says_same (present_leaves back) s t q.1 q.2 says;
         }
     by (Some x) w n =
         let q : (between : Standing) × (leaves_in between ≡ moved_to (place_of_node (told_leaf x)) read.leaf (leaves_in s)) × (between.inodes ≡ s.inodes) × (between.names ≡ s.names) × (t.index ≡ between.index) × Notes (told_leaf x) between t =
         subst (λ (o : Option JournalNode). Places (record read { node = o }) s t) n p in
-        let new : leaf_at last.leaf.key (place_of_node (told_leaf x)) ≡ x.leaf = ap (λ (k : Key). leaf_at k (place_of_node (told_leaf x))) (sym w.key) in
+        let new : leaf_of_key last.leaf.key (place_of_node (told_leaf x)) ≡ x.leaf = ap (λ (k : Key). leaf_of_key k (place_of_node (told_leaf x))) (sym w.key) in
         let moved : moved_to (place_of_node (told_leaf x)) last.leaf (leaves_in s) ≡ swapped last.leaf x.leaf (leaves_in s) = rw w.is_key (ap (λ (l : Leaf). swapped last.leaf l (leaves_in s)) new) in
         record {
-          in_index = ap (λ (j : Index). contents (shape j.root)) q.4 ∙ q.1 ∙ ap (λ (l : Leaf). moved_to (place_of_node (told_leaf x)) l (leaves_in s)) leaf ∙ moved ∙ ap (swapped last.leaf x.leaf) i ∙ swapped_last xs (leaves (present back)) last.leaf x.leaf beside;
-          says = says_more x (present back) q.0 t w.keyed (says_same (present back) s q.0 q.2 q.3 says) q.5;
+          in_index = ap (λ (j : Index). contents (shape j.root)) q.4 ∙ q.1 ∙ ap (λ (l : Leaf). moved_to (place_of_node (told_leaf x)) l (leaves_in s)) leaf ∙ moved ∙ ap (swapped last.leaf x.leaf) i ∙ swapped_last xs (leaves (present_leaves back)) last.leaf x.leaf beside;
+          says = says_more x (present_leaves back) q.0 t w.keyed (says_same (present_leaves back) s q.0 q.2 q.3 says) q.5;
         }
 
 pub place_on : (found : List LeafFound) (before items : List ReadLeaf) (read : ReadLeaf) (s t : Standing) → before ≡ items ++ (read ∷ []) → Placing found before s → Places read s t → Placing found items t
@@ -144,7 +144,7 @@ place_on found before items read s t pop p places =
     let front : places_of p.front ≡ xs ++ u.last.leaf ∷ [] = ap places_of u.split ∙ map_append u.first (u.last ∷ []) in
     let distinct : AreDistinct (xs ++ u.last.leaf ∷ []) = subst AreDistinct front p.distinct in
     let well = subst (AllByRecursion IsFoundWell) u.split p.well in
-    let in_index : leaves_in s ≡ xs ++ u.last.leaf ∷ leaves (present p.back) = p.in_index ∙ ap (λ (ys : List Leaf). ys ++ leaves (present p.back)) front ∙ append_assoc xs (u.last.leaf ∷ []) (leaves (present p.back)) in
+    let in_index : leaves_in s ≡ xs ++ u.last.leaf ∷ leaves (present_leaves p.back) = p.in_index ∙ ap (λ (ys : List Leaf). ys ++ leaves (present_leaves p.back)) front ∙ append_assoc xs (u.last.leaf ∷ []) (leaves (present_leaves p.back)) in
     let o = one_placed p.back xs u.last read s t (last_beside xs u.last.leaf distinct) (last_well u.first u.last well) u.one in_index p.says places in
     record {
       front = u.first;
@@ -167,7 +167,7 @@ place_start found items s a = record { front = found; back = []; split = sym (ap
 pub place_end : (found : List LeafFound) (items : List ReadLeaf) (s : Standing) → items ≡ [] → Placing found items s → ArePlaced found s
 place_end found items s e p = by p.front p.split (sym (ap (map pair_told) e) ∙ p.told) p.in_index
   where
-    by : (front : List LeafFound) → found ≡ front ++ p.back → [] ≡ map pair_found front → leaves_in s ≡ places_of front ++ leaves (present p.back) → ArePlaced found s
+    by : (front : List LeafFound) → found ≡ front ++ p.back → [] ≡ map pair_found front → leaves_in s ≡ places_of front ++ leaves (present_leaves p.back) → ArePlaced found s
     by [] split t i = subst (λ (fs : List LeafFound). ArePlaced fs s) (sym split) (record { in_index = i; says = p.says })
     by (f ∷ front) split t i = absurd cc
 

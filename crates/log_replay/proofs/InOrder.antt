@@ -21,7 +21,7 @@ use Rattle.leaf_map.specs.LeafMap.{HasKeyOf, IsKeyed, IsLeafMap, are_apart}
 use Rattle.leaf_map.specs.Parts.{Committed, Parts, own_node}
 use Rattle.leaf_map.specs.RankLaws.{key_of_place}
 use Rattle.leaf_map.specs.Recovered.{copies_left, copy_of_key, is_original, leaves_found, spare_copies, stand_in}
-use Rattle.log_replay.specs.Placing.{present}
+use Rattle.log_replay.specs.Placing.{present_leaves}
 use Rattle.log_replay.specs.Settling.{HasGrammar}
 use Rattle.log_replay.specs.Standing.{leaves}
 use Rattle.log_replay.specs.Told.{IsSetting}
@@ -99,13 +99,13 @@ one_more c cs (Some x) kept at more = record {
       and_from (nat_le low (leaf_rank c.leaf)) (ordered_from (leaf_rank c.leaf) (leaves kept)) p.0 (more.ordered (leaf_rank c.leaf) p.1));
 }
 
-in_order_all : (parts : Parts) (left : List Placed) (cs : List Committed) → AllByRecursion HasGrammar cs → HaveTrueKeys cs → AllByRecursion (λ d. IsSetting d.node) left → AreInOrder cs (present (founds parts left cs))
+in_order_all : (parts : Parts) (left : List Placed) (cs : List Committed) → AllByRecursion HasGrammar cs → HaveTrueKeys cs → AllByRecursion (λ d. IsSetting d.node) left → AreInOrder cs (present_leaves (founds parts left cs))
 in_order_all parts left [] g k all = record { keyed = tt; ordered = λ low o. refl }
 in_order_all parts left (c ∷ cs) g k all =
     let own = own_node parts.named c in
     let rest = founds parts (copies_left left c own) cs in
     subst (AreInOrder (c ∷ cs)) (sym (present_one (record { leaf = c.leaf; kept = found_as left c own }) rest))
-    (one_more c cs (found_as left c own) (present rest) (λ x f. one_at parts left c own refl g.0 k.0 all x f) (in_order_all parts (copies_left left c own) cs g.1 k.1 (left_setting parts c left own all)))
+    (one_more c cs (found_as left c own) (present_leaves rest) (λ x f. one_at parts left c own refl g.0 k.0 all x f) (in_order_all parts (copies_left left c own) cs g.1 k.1 (left_setting parts c left own all)))
 
 -- so they are those of an index, if no two show the same
 pub found_of_index : (parts : Parts) (index : Index) → contents (shape index.root) ≡ map (λ c. c.leaf) parts.committed → AllByRecursion HasGrammar parts.committed → AllByRecursion (λ c. IsSetting c.node) parts.copies

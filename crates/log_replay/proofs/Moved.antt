@@ -14,7 +14,7 @@ use Rattle.index_tree.specs.Removal.{holds, same_leaf}
 use Rattle.leaf_map.specs.Kept.{Kept, Placed, kept_at, shown, shown_by}
 use Rattle.leaf_map.specs.LeafMap.{IsKeyed, shows_same}
 use Rattle.leaf_map.specs.Parts.{Parts, is_named}
-use Rattle.leaf_map.specs.Recovered.{at_copy, copy_of, is_copied, moved}
+use Rattle.leaf_map.specs.Recovered.{at_copy, copy_of_leaf, is_copied, moved_to_its_copy}
 use Rattle.journal_scan.specs.Places.{HasNamedPlace}
 use Rattle.log_replay.specs.declared.application.Place.{Place}
 use Rattle.log_replay.specs.declared.candidate.Candidate.{Candidate}
@@ -22,7 +22,7 @@ use Rattle.log_replay.specs.Moving.{candidate_at, moved_all, moved_one, outside,
 use Rattle.log_replay.specs.Placing.{is_key}
 use Rattle.log_replay.specs.Settling.{copy_at}
 use Rattle.log_replay.specs.Told.{IsSetting}
-use Rattle.log_replay.specs.Standing.{leaf_at, leaves}
+use Rattle.log_replay.specs.Standing.{leaf_of_key, leaves}
 use Rattle.log_replay.proofs.Carried.{IsAmong, IsCarried, bud_named}
 use Rattle.log_replay.proofs.Distinct.{same_turned}
 use Rattle.log_replay.proofs.Founds.{fits}
@@ -35,18 +35,18 @@ use Rattle.log_replay.proofs.Telling.{has_key}
 use Rattle.log_replay.proofs.Tests.{number_same}
 
 -- ---- a copy's leaf
-copy_found : (copies : List Placed) (x : Kept) (c : Placed) → copy_of copies x ≡ Some c → shows_same (shown_by x) (shown c.node) ≡ true
+copy_found : (copies : List Placed) (x : Kept) (c : Placed) → copy_of_leaf copies x ≡ Some c → shows_same (shown_by x) (shown c.node) ≡ true
 copy_found [] x c f = absurd cc
 copy_found (d ∷ copies) x c f = by ((d.sqnum == x.sqnum) && shows_same (shown_by x) (shown d.node)) refl f (copy_found copies x c)
   where
-    by : (b : Bool) → ((d.sqnum == x.sqnum) && shows_same (shown_by x) (shown d.node)) ≡ b → cond b (Some d) (copy_of copies x) ≡ Some c → (copy_of copies x ≡ Some c → shows_same (shown_by x) (shown c.node) ≡ true) → shows_same (shown_by x) (shown c.node) ≡ true
+    by : (b : Bool) → ((d.sqnum == x.sqnum) && shows_same (shown_by x) (shown d.node)) ≡ b → cond b (Some d) (copy_of_leaf copies x) ≡ Some c → (copy_of_leaf copies x ≡ Some c → shows_same (shown_by x) (shown c.node) ≡ true) → shows_same (shown_by x) (shown c.node) ≡ true
     by true e g more = let same : d ≡ c = cc in subst (λ (z : Placed). shows_same (shown_by x) (shown z.node) ≡ true) same (and_parts (d.sqnum == x.sqnum) (shows_same (shown_by x) (shown d.node)) e).1
     by false e g more = more g
 
-copy_leaf : (copies : List Placed) (x : Kept) (c : Placed) → IsKeyed x → AllByRecursion (λ d. IsSetting d.node) copies → copy_of copies x ≡ Some c → leaf_at x.leaf.key (record { lnum = c.lnum; offs = c.offs; len = c.len }) ≡ (kept_at c).leaf
+copy_leaf : (copies : List Placed) (x : Kept) (c : Placed) → IsKeyed x → AllByRecursion (λ d. IsSetting d.node) copies → copy_of_leaf copies x ≡ Some c → leaf_of_key x.leaf.key (record { lnum = c.lnum; offs = c.offs; len = c.len }) ≡ (kept_at c).leaf
 copy_leaf copies x c k all f =
     let is = find_all (λ d. IsSetting d.node) (λ d. (d.sqnum == x.sqnum) && shows_same (shown_by x) (shown d.node)) copies c all f in
-    ap (λ (key : Key). leaf_at key (record { lnum = c.lnum; offs = c.offs; len = c.len }))
+    ap (λ (key : Key). leaf_of_key key (record { lnum = c.lnum; offs = c.offs; len = c.len }))
     (sym (one_key x.leaf (kept_at c).leaf (shown_by x) (shown c.node) (key_is x.leaf (shown_by x) k) (key_is (kept_at c).leaf (shown c.node) (has_key c is)) (copy_found copies x c f)))
 
 -- ---- leaves among others
@@ -169,15 +169,15 @@ module _ (parts : Parts) (found left : List Kept) where
   stay lnum = list_any (stays_in xs lnum) candidates
 
   abbrev pub sent_to : Kept → Option Leaf
-  sent_to x = cond (stay x.leaf.lnum) None (option_map (λ c. (kept_at c).leaf) (copy_of parts.copies x))
+  sent_to x = cond (stay x.leaf.lnum) None (option_map (λ c. (kept_at c).leaf) (copy_of_leaf parts.copies x))
 
   abbrev pub sent : Kept → Sent
   sent x = record { leaf = x.leaf; new = sent_to x }
 
   step_is : (ys : List Leaf) (x : Kept) → IsKeyed x → AllByRecursion (λ d. IsSetting d.node) parts.copies → moved_one stay ys (candidate_at parts.copies x) ≡ one_sent ys (sent x)
-  step_is ys x k all = by (stay x.leaf.lnum) (copy_of parts.copies x) refl
+  step_is ys x k all = by (stay x.leaf.lnum) (copy_of_leaf parts.copies x) refl
     where
-      by : (b : Bool) (c : Option Placed) → copy_of parts.copies x ≡ c
+      by : (b : Bool) (c : Option Placed) → copy_of_leaf parts.copies x ≡ c
           → moved_one (λ lnum. b) ys (record { leaf = x.leaf; copy = option_map (λ (d : Placed). record { lnum = d.lnum; offs = d.offs; len = d.len }) c }) ≡ one_sent ys (record { leaf = x.leaf; new = cond b None (option_map (λ (d : Placed). (kept_at d).leaf) c) })
       by true c e = refl
       by false None e = refl
@@ -189,16 +189,16 @@ module _ (parts : Parts) (found left : List Kept) where
 
   -- ---- which LEBs stay
   abbrev has_none : ℕ → Kept → Bool
-  has_none lnum x = not (not (x.leaf.lnum == lnum) || is_some (copy_of parts.copies x))
+  has_none lnum x = not (not (x.leaf.lnum == lnum) || is_some (copy_of_leaf parts.copies x))
 
   record HasNone (lnum : ℕ) (x : Kept) : Type 0 where
     number : x.leaf.lnum ≡ lnum
-    none : is_some (copy_of parts.copies x) ≡ false
+    none : is_some (copy_of_leaf parts.copies x) ≡ false
 
   from_none : (lnum : ℕ) (x : Kept) → has_none lnum x ≡ true → HasNone lnum x
-  from_none lnum x h = by (x.leaf.lnum == lnum) refl (is_some (copy_of parts.copies x)) refl h
+  from_none lnum x h = by (x.leaf.lnum == lnum) refl (is_some (copy_of_leaf parts.copies x)) refl h
     where
-      by : (a : Bool) → (x.leaf.lnum == lnum) ≡ a → (b : Bool) → is_some (copy_of parts.copies x) ≡ b → not (not a || b) ≡ true → HasNone lnum x
+      by : (a : Bool) → (x.leaf.lnum == lnum) ≡ a → (b : Bool) → is_some (copy_of_leaf parts.copies x) ≡ b → not (not a || b) ≡ true → HasNone lnum x
       by true e false f g = record { number = eqb-true x.leaf.lnum lnum e; none = f }
       by true e true f g = absurd (false≢true g)
       by false e b f g = absurd (false≢true g)
@@ -206,8 +206,8 @@ module _ (parts : Parts) (found left : List Kept) where
   to_none : (lnum : ℕ) (x : Kept) → HasNone lnum x → has_none lnum x ≡ true
   to_none lnum x h = rw (eq-eqb x.leaf.lnum lnum h.number, h.none) refl
 
-  some_at : (x : Kept) → is_some (copy_at parts.copies x) ≡ is_some (copy_of parts.copies x)
-  some_at x = by (copy_of parts.copies x)
+  some_at : (x : Kept) → is_some (copy_at parts.copies x) ≡ is_some (copy_of_leaf parts.copies x)
+  some_at x = by (copy_of_leaf parts.copies x)
     where
       by : (c : Option Placed) → is_some {T = Place} (option_map (λ (d : Placed). record { lnum = d.lnum; offs = d.offs; len = d.len }) c) ≡ is_some c
       by None = refl
@@ -215,7 +215,7 @@ module _ (parts : Parts) (found left : List Kept) where
 
   record StaysIn (lnum : ℕ) (y : Kept) : Type 0 where
     number : y.leaf.lnum ≡ lnum
-    none : is_some (copy_of parts.copies y) ≡ false
+    none : is_some (copy_of_leaf parts.copies y) ≡ false
     there : list_any (λ x. same_leaf x.leaf y.leaf) left ≡ true
 
   from_stay : (lnum : ℕ) (y : Kept) → stays_in xs lnum (candidate_at parts.copies y) ≡ true → StaysIn lnum y
@@ -239,7 +239,7 @@ module _ (parts : Parts) (found left : List Kept) where
     lebs_stay : (lnum : ℕ) → is_named parts.named lnum ≡ false → stay lnum ≡ not (is_copied parts.copies left lnum)
     lebs_stay lnum h = any_map (stays_in xs lnum) (candidate_at parts.copies) (outside parts.named found)
         ∙ one_bool (list_any (λ y. stays_in xs lnum (candidate_at parts.copies y)) (outside parts.named found)) (list_any (has_none lnum) left) there back
-        ∙ sym (not_all (λ x. not (x.leaf.lnum == lnum) || is_some (copy_of parts.copies x)) left)
+        ∙ sym (not_all (λ x. not (x.leaf.lnum == lnum) || is_some (copy_of_leaf parts.copies x)) left)
       where
         there : list_any (λ y. stays_in xs lnum (candidate_at parts.copies y)) (outside parts.named found) ≡ true → list_any (has_none lnum) left ≡ true
         there e =
@@ -249,7 +249,7 @@ module _ (parts : Parts) (found left : List Kept) where
             let number : v.y.leaf.lnum ≡ lnum = (is_one v.y.leaf w.y.leaf v.holds).lnum ∙ s.number in
             let free : is_named parts.named v.y.leaf.lnum ≡ false = ap (is_named parts.named) number ∙ h in
             let same : v.y ≡ w.y = among_one v.y w.y found distinct (among_all (IsCarried parts.named found) v.y left carried v.among free) (among_more (λ y. is_outside parts.named y.leaf) w.y found w.among) v.holds in
-            among_any (has_none lnum) v.y left v.among (to_none lnum v.y (record { number = number; none = ap (λ (k : Kept). is_some (copy_of parts.copies k)) same ∙ s.none }))
+            among_any (has_none lnum) v.y left v.among (to_none lnum v.y (record { number = number; none = ap (λ (k : Kept). is_some (copy_of_leaf parts.copies k)) same ∙ s.none }))
 
         back : list_any (has_none lnum) left ≡ true → list_any (λ y. stays_in xs lnum (candidate_at parts.copies y)) (outside parts.named found) ≡ true
         back e =
@@ -282,35 +282,35 @@ module _ (parts : Parts) (found left : List Kept) where
       goes_in [] = tt
       goes_in (y ∷ ys) = by (goes_in ys) (is_outside parts.named y.leaf) refl
         where
-          new : (b : Bool) (c : Option Placed) → copy_of parts.copies y ≡ c → MatchOption (cond b None (option_map (λ (d : Placed). (kept_at d).leaf) c)) (Unit {0}) (λ new. is_outside parts.named new ≡ false)
+          new : (b : Bool) (c : Option Placed) → copy_of_leaf parts.copies y ≡ c → MatchOption (cond b None (option_map (λ (d : Placed). (kept_at d).leaf) c)) (Unit {0}) (λ new. is_outside parts.named new ≡ false)
           new true c e = tt
           new false None e = tt
           new false (Some c) e =
               ap not (bud_named parts.named (kept_at c).leaf (find_all (HasNamedPlace parts.named) (λ d. (d.sqnum == y.sqnum) && shows_same (shown_by y) (shown d.node)) parts.copies c named_copies e))
 
           by : AllByRecursion (GoesIn parts.named) (map sent (outside parts.named ys)) → (b : Bool) → is_outside parts.named y.leaf ≡ b → AllByRecursion (GoesIn parts.named) (map sent (cond b (y ∷ outside parts.named ys) (outside parts.named ys)))
-          by more true e = ((e, new (stay y.leaf.lnum) (copy_of parts.copies y) refl), more)
+          by more true e = ((e, new (stay y.leaf.lnum) (copy_of_leaf parts.copies y) refl), more)
           by more false e = more
 
-      goes : (x : Kept) → IsAmong x left → goes_to sents x.leaf ≡ (moved parts left x).leaf
+      goes : (x : Kept) → IsAmong x left → goes_to sents x.leaf ≡ (moved_to_its_copy parts left x).leaf
       goes x a = by (is_named parts.named x.leaf.lnum) refl
         where
-          copied : (b s : Bool) → s ≡ not b → (c : Option Placed) → copy_of parts.copies x ≡ c → if_sent (cond s None (option_map (λ (d : Placed). (kept_at d).leaf) c)) x.leaf ≡ (cond b (at_copy parts.copies x) x).leaf
+          copied : (b s : Bool) → s ≡ not b → (c : Option Placed) → copy_of_leaf parts.copies x ≡ c → if_sent (cond s None (option_map (λ (d : Placed). (kept_at d).leaf) c)) x.leaf ≡ (cond b (at_copy parts.copies x) x).leaf
           copied true s e None f = rw (e, f) refl
           copied true s e (Some c) f = rw (e, f) refl
           copied false s e c f = rw e refl
 
-          by : (b : Bool) → is_named parts.named x.leaf.lnum ≡ b → goes_to sents x.leaf ≡ (moved parts left x).leaf
+          by : (b : Bool) → is_named parts.named x.leaf.lnum ≡ b → goes_to sents x.leaf ≡ (moved_to_its_copy parts left x).leaf
           by true e = stays parts.named sents x.leaf (goes_in found) (ap not e) ∙ rw e refl
           by false e =
               goes_one x (outside parts.named found) (distinct_left (λ y. is_outside parts.named y.leaf) found distinct) (among_outside x a e)
-              ∙ copied (is_copied parts.copies left x.leaf.lnum) (stay x.leaf.lnum) (lebs_stay x.leaf.lnum e) (copy_of parts.copies x) refl ∙ rw e refl
+              ∙ copied (is_copied parts.copies left x.leaf.lnum) (stay x.leaf.lnum) (lebs_stay x.leaf.lnum e) (copy_of_leaf parts.copies x) refl ∙ rw e refl
 
-      all_goes : (ys : List Kept) → ((x : Kept) → IsAmong x ys → IsAmong x left) → map (goes_to sents) (leaves ys) ≡ leaves (map (moved parts left) ys)
+      all_goes : (ys : List Kept) → ((x : Kept) → IsAmong x ys → IsAmong x left) → map (goes_to sents) (leaves ys) ≡ leaves (map (moved_to_its_copy parts left) ys)
       all_goes [] h = refl
       all_goes (y ∷ ys) h = rw (goes y (h y (inl refl)), all_goes ys (λ x a. h x (inr a))) refl
 
-      pub all_moved : moved_all candidates xs ≡ leaves (map (moved parts left) left)
+      pub all_moved : moved_all candidates xs ≡ leaves (map (moved_to_its_copy parts left) left)
       all_moved =
           steps_are xs (outside parts.named found) (left_all IsKeyed (λ y. is_outside parts.named y.leaf) found keyed_found) setting
           ∙ all_go parts.named sents xs (goes_in found) (outside_distinct parts.named xs apart_left)

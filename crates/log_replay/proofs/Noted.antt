@@ -23,14 +23,14 @@ use Rattle.group_nodes.specs.Nodes.{bits_of, inode_of, kind_of_bits, kind_of_typ
 use Rattle.leaf_map.specs.After.{is_inode}
 use Rattle.leaf_map.specs.Kept.{Kept, shown, shown_by}
 use Rattle.leaf_map.specs.LeafMap.{HasKeyOf, IsKeyed}
-use Rattle.journal_scan.specs.Content.{content_of}
+use Rattle.journal_scan.specs.Content.{node_content_of}
 use Rattle.journal_scan.specs.declared.node_content.NodeContent.{NodeContent}
 use Rattle.journal_scan.specs.declared.node_content.NodeContent.TheVariants.{Inode, Block, Entry, Unknown}
 use Rattle.journal_scan.specs.declared.journal_node.JournalNode.{JournalNode}
 use Rattle.log_replay.specs.declared.application.Place.{Place}
 use Rattle.log_replay.specs.declared.standing.Standing.{Standing}
 use Rattle.log_replay.specs.Noting.{Notes, NotesBy, Says}
-use Rattle.log_replay.specs.Standing.{is_linked, is_name, leaf_at, links_of, place_of}
+use Rattle.log_replay.specs.Standing.{is_linked_inode, is_name_shown, leaf_of_key, links_among, leaf_of_name}
 use Rattle.log_replay.specs.Told.{told_leaf}
 use Rattle.log_replay.proofs.OneNode.{same_links, same_places}
 use Rattle.log_replay.proofs.Tests.{key, key_other, key_same, name_here, name_other, number_other, number_same, other_number}
@@ -41,9 +41,9 @@ number_of (Some (SetInode ino set)) = ino
 number_of other = 0
 
 inode_told : (node : InoNode) (ino : ℕ) (set : AnInode) (k : Option Kind) → option_map (λ kind. SetInode node.ino (inode_of node kind)) k ≡ Some (SetInode ino set)
-    → cond (is_some k) (Inode node.ino (not (node.nlink == 0))) (Unknown (Ino node.ino) (not (node.nlink == 0))) ≡ Inode ino (is_linked (Some (SetInode ino set)))
+    → cond (is_some k) (Inode node.ino (not (node.nlink == 0))) (Unknown (Ino node.ino) (not (node.nlink == 0))) ≡ Inode ino (is_linked_inode (Some (SetInode ino set)))
 inode_told node ino set None e = absurd cc
-inode_told node ino set (Some kind) e = ap (λ (i : ℕ). Inode i (not (node.nlink == 0))) (ap number_of e) ∙ ap (λ (b : Bool). Inode ino b) (ap is_linked e)
+inode_told node ino set (Some kind) e = ap (λ (i : ℕ). Inode i (not (node.nlink == 0))) (ap number_of e) ∙ ap (λ (b : Bool). Inode ino b) (ap is_linked_inode e)
 
 -- an entry's node shows a name, if anything
 abbrev may_be_name : Option Change → Bool
@@ -62,7 +62,7 @@ entry_shows node false false (Some kind) = refl
 entry_named : (node : DentNode) (s : Option Change) → shown (entry node) ≡ s → may_be_name s ≡ false → ⊥
 entry_named node s e h = false≢true (sym h ∙ sym (ap may_be_name e) ∙ entry_shows node node.attribute (node.inum == 0) (kind_of_type node.kind))
 
-pub content_inode : (node : LeafNode) (ino : ℕ) (set : AnInode) → shown node ≡ Some (SetInode ino set) → content_of node ≡ Inode ino (is_linked (Some (SetInode ino set)))
+pub content_inode : (node : LeafNode) (ino : ℕ) (set : AnInode) → shown node ≡ Some (SetInode ino set) → node_content_of node ≡ Inode ino (is_linked_inode (Some (SetInode ino set)))
 content_inode (inode node) ino set e = inode_told node ino set (kind_of_bits (bits_of node.mode)) e
 content_inode (block node) ino set e = absurd cc
 content_inode (entry node) ino set e = absurd (entry_named node (Some (SetInode ino set)) e refl)
@@ -93,7 +93,7 @@ entry_told node q false true k h e = absurd cc
 entry_told node q false false None h e = absurd cc
 entry_told node q false false (Some kind) h e = ap (λ (b : Bool). Entry node.dir node.name (not b)) h ∙ ap name_told e
 
-pub content_entry : (node : LeafNode) (q : AnEntry) → shown node ≡ Some (SetEntry q) → content_of node ≡ Entry q.dir q.name true
+pub content_entry : (node : LeafNode) (q : AnEntry) → shown node ≡ Some (SetEntry q) → node_content_of node ≡ Entry q.dir q.name true
 content_entry (inode node) q e = absurd (no_set node (SetEntry q) (kind_of_bits (bits_of node.mode)) e refl)
 content_entry (block node) q e = absurd cc
 content_entry (entry node) q e = entry_told node q node.attribute (node.inum == 0) (kind_of_type node.kind) refl e
@@ -104,7 +104,7 @@ abbrev block_told : Option Change → NodeContent
 block_told (Some (SetBlock ino number bytes)) = Block ino number
 block_told other = Unknown (Ino 0) true
 
-pub content_block : (node : LeafNode) (ino number : ℕ) (bytes : List ℕ) → shown node ≡ Some (SetBlock ino number bytes) → content_of node ≡ Block ino number
+pub content_block : (node : LeafNode) (ino number : ℕ) (bytes : List ℕ) → shown node ≡ Some (SetBlock ino number bytes) → node_content_of node ≡ Block ino number
 content_block (inode node) ino number bytes e = absurd (no_set node (SetBlock ino number bytes) (kind_of_bits (bits_of node.mode)) e refl)
 content_block (block node) ino number bytes e = ap block_told e
 content_block (entry node) ino number bytes e = absurd (entry_named node (Some (SetBlock ino number bytes)) e refl)
@@ -118,27 +118,27 @@ number_at a b = by (is_at (nat_cmp a) b) refl
     by true e = eq-eqb a b (number_same a b e)
     by false e = other_number a b (number_other a b e)
 
-name_at : (q : ℕ × List ℕ) (e : AnEntry) → is_name q (Some (SetEntry e)) ≡ is_at (name_cmp (key e)) q
+name_at : (q : ℕ × List ℕ) (e : AnEntry) → is_name_shown q (Some (SetEntry e)) ≡ is_at (name_cmp (key e)) q
 name_at q e = by (is_at (name_cmp (key e)) q) refl
   where
-    by : (c : Bool) → is_at (name_cmp (key e)) q ≡ c → is_name q (Some (SetEntry e)) ≡ c
+    by : (c : Bool) → is_at (name_cmp (key e)) q ≡ c → is_name_shown q (Some (SetEntry e)) ≡ c
     by true f = name_here q e (key_same (key e) q f)
     by false f = name_other q e (key_other (key e) q f)
 
 abbrev at_leaf : Leaf → Place
 at_leaf leaf = record { lnum = leaf.lnum; offs = leaf.offs; len = leaf.len }
 
-links_more : (x : Kept) (kept : List Kept) (q : ℕ) (b : Bool) → is_inode q (shown_by x) ≡ b → links_of (x ∷ kept) q ≡ cond b (Some (is_linked (shown_by x))) (links_of kept q)
+links_more : (x : Kept) (kept : List Kept) (q : ℕ) (b : Bool) → is_inode q (shown_by x) ≡ b → links_among (x ∷ kept) q ≡ cond b (Some (is_linked_inode (shown_by x))) (links_among kept q)
 links_more x kept q b e = rw e (by b)
   where
-    by : (c : Bool) → option_map (λ y. is_linked (shown_by y)) (cond c (Some x) (find (λ y. is_inode q (shown_by y)) kept)) ≡ cond c (Some (is_linked (shown_by x))) (links_of kept q)
+    by : (c : Bool) → option_map (λ y. is_linked_inode (shown_by y)) (cond c (Some x) (find (λ y. is_inode q (shown_by y)) kept)) ≡ cond c (Some (is_linked_inode (shown_by x))) (links_among kept q)
     by true = refl
     by false = refl
 
-place_more : (x : Kept) (kept : List Kept) (q : ℕ × List ℕ) (b : Bool) → is_name q (shown_by x) ≡ b → place_of (x ∷ kept) q ≡ cond b (Some x.leaf) (place_of kept q)
+place_more : (x : Kept) (kept : List Kept) (q : ℕ × List ℕ) (b : Bool) → is_name_shown q (shown_by x) ≡ b → leaf_of_name (x ∷ kept) q ≡ cond b (Some x.leaf) (leaf_of_name kept q)
 place_more x kept q b e = rw e (by b)
   where
-    by : (c : Bool) → option_map (λ y. y.leaf) (cond c (Some x) (find (λ y. is_name q (shown_by y)) kept)) ≡ cond c (Some x.leaf) (place_of kept q)
+    by : (c : Bool) → option_map (λ y. y.leaf) (cond c (Some x) (find (λ y. is_name_shown q (shown_by y)) kept)) ≡ cond c (Some x.leaf) (leaf_of_name kept q)
     by true = refl
     by false = refl
 
@@ -149,25 +149,25 @@ says_more x kept s t keyed says notes = by (shown_by x) refl keyed
     by (Some (SetInode ino set)) e h =
         let d = subst (λ (n : NodeContent). NotesBy n (at_leaf x.leaf) s t) (content_inode x.node ino set e) notes in
         record {
-          inodes = λ q. d.inodes q ∙ ap (λ (z : Option Bool). cond (is_at (nat_cmp ino) q) (Some (is_linked (Some (SetInode ino set)))) z) (says.inodes q)
-              ∙ ap (λ (b : Bool). cond (is_at (nat_cmp ino) q) (Some b) (links_of kept q)) (sym (ap is_linked e))
+          inodes = λ q. d.inodes q ∙ ap (λ (z : Option Bool). cond (is_at (nat_cmp ino) q) (Some (is_linked_inode (Some (SetInode ino set)))) z) (says.inodes q)
+              ∙ ap (λ (b : Bool). cond (is_at (nat_cmp ino) q) (Some b) (links_among kept q)) (sym (ap is_linked_inode e))
               ∙ sym (links_more x kept q (is_at (nat_cmp ino) q) (ap (is_inode q) e ∙ number_at ino q));
-          names = λ q. same_places s t d.names q ∙ says.names q ∙ sym (place_more x kept q false (ap (is_name q) e));
+          names = λ q. same_places s t d.names q ∙ says.names q ∙ sym (place_more x kept q false (ap (is_name_shown q) e));
         }
     by (Some (SetEntry q)) e h =
         let d = subst (λ (n : NodeContent). NotesBy n (at_leaf x.leaf) s t) (content_entry x.node q e) notes in
-        let here : leaf_at (Dent q.dir (r5_of q.name)) (at_leaf x.leaf) ≡ x.leaf = ap (λ (k : Key). leaf_at k (at_leaf x.leaf)) (sym h) in
+        let here : leaf_of_key (Dent q.dir (r5_of q.name)) (at_leaf x.leaf) ≡ x.leaf = ap (λ (k : Key). leaf_of_key k (at_leaf x.leaf)) (sym h) in
         record {
           inodes = λ i. same_links s t d.inodes i ∙ says.inodes i ∙ sym (links_more x kept i false (ap (is_inode i) e));
-          names = λ p. d.names p ∙ ap (λ (z : Option Leaf). cond (is_at (name_cmp (key q)) p) (Some (leaf_at (Dent q.dir (r5_of q.name)) (at_leaf x.leaf))) z) (says.names p)
-              ∙ ap (λ (z : Leaf). cond (is_at (name_cmp (key q)) p) (Some z) (place_of kept p)) here
-              ∙ sym (place_more x kept p (is_at (name_cmp (key q)) p) (ap (is_name p) e ∙ name_at p q));
+          names = λ p. d.names p ∙ ap (λ (z : Option Leaf). cond (is_at (name_cmp (key q)) p) (Some (leaf_of_key (Dent q.dir (r5_of q.name)) (at_leaf x.leaf))) z) (says.names p)
+              ∙ ap (λ (z : Leaf). cond (is_at (name_cmp (key q)) p) (Some z) (leaf_of_name kept p)) here
+              ∙ sym (place_more x kept p (is_at (name_cmp (key q)) p) (ap (is_name_shown p) e ∙ name_at p q));
         }
     by (Some (SetBlock ino number bytes)) e h =
         let d = subst (λ (n : NodeContent). NotesBy n (at_leaf x.leaf) s t) (content_block x.node ino number bytes e) notes in
         let more : Says (x ∷ kept) s = record {
           inodes = λ i. says.inodes i ∙ sym (links_more x kept i false (ap (is_inode i) e));
-          names = λ p. says.names p ∙ sym (place_more x kept p false (ap (is_name p) e));
+          names = λ p. says.names p ∙ sym (place_more x kept p false (ap (is_name_shown p) e));
         } in
         subst (Says (x ∷ kept)) (sym d) more
     by c e h = absurd h

@@ -18,8 +18,8 @@ use Rattle.leaf_map.specs.Kept.{Kept, shown_by}
 use Rattle.leaf_map.specs.LeafMap.{IsLeafMap, are_apart, shows_same}
 use Rattle.leaf_map.specs.Recovered.{is_unlinked, without_orphan}
 use Rattle.log_replay.specs.declared.standing.Standing.{Standing}
-use Rattle.log_replay.specs.Changes.{DropsInode, DropsOrphan, is_bare}
-use Rattle.log_replay.specs.Standing.{Stands, is_linked, leaves, links_of}
+use Rattle.log_replay.specs.Changes.{StandingDropsInode, DropsOrphan, is_without_links}
+use Rattle.log_replay.specs.Standing.{StandsForLeaves, is_linked_inode, leaves, links_among}
 use Rattle.log_replay.proofs.Distinct.{names_stay}
 use Rattle.log_replay.proofs.Maps.{links_dropped, place_stay}
 use Rattle.log_replay.proofs.OneNode.{same_places}
@@ -36,7 +36,7 @@ not_inode : (ino : ℕ) (s : Option Change) → is_inode ino s ≡ false → is_
 not_inode ino (Some (SetInode other node)) h = rw h refl
 not_inode ino s h = refl
 
-is_the_inode : (ino : ℕ) (s : Option Change) → is_inode ino s ≡ true → is_unlinked ino s ≡ not (is_linked s)
+is_the_inode : (ino : ℕ) (s : Option Change) → is_inode ino s ≡ true → is_unlinked ino s ≡ not (is_linked_inode s)
 is_the_inode ino (Some (SetInode other node)) h = rw h (by (node.nlink == 0))
   where
     by : (b : Bool) → b ≡ not (not b)
@@ -61,15 +61,15 @@ all_behind ino s (y ∷ kept) h n =
     rw (none_behind ino s (shown_by y) h p.0) (all_behind ino s kept h p.1)
 
 -- leaves have an inode without links if the first of its number has none
-pub bare_is : (ino : ℕ) (kept : List Kept) → are_apart kept ≡ true → list_any (λ x. is_unlinked ino (shown_by x)) kept ≡ is_bare (links_of kept ino)
+pub bare_is : (ino : ℕ) (kept : List Kept) → are_apart kept ≡ true → list_any (λ x. is_unlinked ino (shown_by x)) kept ≡ is_without_links (links_among kept ino)
 bare_is ino [] h = refl
 bare_is ino (x ∷ kept) h =
     let p = and_parts (list_all (λ y. not (shows_same (shown_by x) (shown_by y))) kept) (are_apart kept) h in
     by p.0 (bare_is ino kept p.1) (is_inode ino (shown_by x)) refl
   where
-    by : list_all (λ y. not (shows_same (shown_by x) (shown_by y))) kept ≡ true → list_any (λ x. is_unlinked ino (shown_by x)) kept ≡ is_bare (links_of kept ino) → (b : Bool) → is_inode ino (shown_by x) ≡ b
-        → (is_unlinked ino (shown_by x) || list_any (λ x. is_unlinked ino (shown_by x)) kept) ≡ is_bare (option_map (λ x. is_linked (shown_by x)) (cond b (Some x) (find (λ x. is_inode ino (shown_by x)) kept)))
-    by n more true e = rw (is_the_inode ino (shown_by x) e, all_behind ino (shown_by x) kept e n) (none (is_linked (shown_by x)))
+    by : list_all (λ y. not (shows_same (shown_by x) (shown_by y))) kept ≡ true → list_any (λ x. is_unlinked ino (shown_by x)) kept ≡ is_without_links (links_among kept ino) → (b : Bool) → is_inode ino (shown_by x) ≡ b
+        → (is_unlinked ino (shown_by x) || list_any (λ x. is_unlinked ino (shown_by x)) kept) ≡ is_without_links (option_map (λ x. is_linked_inode (shown_by x)) (cond b (Some x) (find (λ x. is_inode ino (shown_by x)) kept)))
+    by n more true e = rw (is_the_inode ino (shown_by x) e, all_behind ino (shown_by x) kept e n) (none (is_linked_inode (shown_by x)))
       where
         none : (b : Bool) → (not b || false) ≡ not b
         none true = refl
@@ -77,13 +77,13 @@ bare_is ino (x ∷ kept) h =
     by n more false e = rw (not_inode ino (shown_by x) e) more
 
 -- an inode that goes
-drops : OrphanLaws → (ino : ℕ) (kept : List Kept) (s t : Standing) → list_any (λ x. is_unlinked ino (shown_by x)) kept ≡ true → Stands kept s → DropsInode ino s t → Stands (without_orphan kept ino) t
+drops : OrphanLaws → (ino : ℕ) (kept : List Kept) (s t : Standing) → list_any (λ x. is_unlinked ino (shown_by x)) kept ≡ true → StandsForLeaves kept s → StandingDropsInode ino s t → StandsForLeaves (without_orphan kept ino) t
 drops L ino kept s t any st d =
     let gone : Kept → Bool = is_gone (DropInode ino) in
     let left : List Kept = filter (λ x. not (is_gone (DropInode ino) x)) kept in
     let same : without_orphan kept ino ≡ filter (λ x. not (is_gone (DropInode ino) x)) kept = rw any refl in
     let range : leaves (without_orphan kept ino) ≡ outside_range (key_rank (Ino ino)) (key_rank (last_block_key ino)) (leaves kept) = L.orphan ino kept st.leaf_map ∙ rw any refl in
-    subst (λ (ks : List Kept). Stands ks t) (sym same) (record {
+    subst (λ (ks : List Kept). StandsForLeaves ks t) (sym same) (record {
       in_index = d.leaves ∙ ap (outside_range (key_rank (Ino ino)) (key_rank (last_block_key ino))) st.in_index ∙ sym range ∙ ap leaves same;
       leaf_map = subst IsLeafMap same (L.left ino kept st.leaf_map);
       distinct = subst (λ (xs : List Kept). AreDistinct (leaves xs)) (sym (names_stay gone kept (λ x g. all_goes ino (shown_by x) g))) st.distinct;
@@ -91,14 +91,14 @@ drops L ino kept s t any st d =
       names = λ q. same_places s t d.names q ∙ st.names q ∙ sym (place_stay gone kept q (λ x g. all_goes ino (shown_by x) g));
     })
 
-pub orphan_stands : OrphanLaws → (ino : ℕ) (kept : List Kept) (s t : Standing) → DropsOrphan ino s t → Stands kept s → Stands (without_orphan kept ino) t
+pub orphan_stands : OrphanLaws → (ino : ℕ) (kept : List Kept) (s t : Standing) → DropsOrphan ino s t → StandsForLeaves kept s → StandsForLeaves (without_orphan kept ino) t
 orphan_stands L ino kept s t d st = by (list_any (λ x. is_unlinked ino (shown_by x)) kept) refl
   where
-    bare : is_bare (get nat_cmp s.inodes ino) ≡ list_any (λ x. is_unlinked ino (shown_by x)) kept
-    bare = ap is_bare (st.inodes ino) ∙ sym (bare_is ino kept st.leaf_map.apart)
+    bare : is_without_links (get nat_cmp s.inodes ino) ≡ list_any (λ x. is_unlinked ino (shown_by x)) kept
+    bare = ap is_without_links (st.inodes ino) ∙ sym (bare_is ino kept st.leaf_map.apart)
 
-    by : (b : Bool) → list_any (λ x. is_unlinked ino (shown_by x)) kept ≡ b → Stands (without_orphan kept ino) t
+    by : (b : Bool) → list_any (λ x. is_unlinked ino (shown_by x)) kept ≡ b → StandsForLeaves (without_orphan kept ino) t
     by true e = drops L ino kept s t e st (d.bare (bare ∙ e))
     by false e =
         let same : without_orphan kept ino ≡ kept = rw e refl in
-        subst (λ (ks : List Kept). Stands ks t) (sym same) (subst (Stands kept) (sym (d.other (bare ∙ e))) st)
+        subst (λ (ks : List Kept). StandsForLeaves ks t) (sym same) (subst (StandsForLeaves kept) (sym (d.other (bare ∙ e))) st)

@@ -15,14 +15,14 @@ use Rattle.group_nodes.specs.Nodes.{gone_inode, inode_node}
 use Rattle.leaf_map.specs.Kept.{Kept, Placed, kept_at, node_key, shown, shown_by}
 use Rattle.leaf_map.specs.Parts.{Committed, Named, Parts, in_bud, is_own, is_shown, own_node}
 use Rattle.leaf_map.specs.Recovered.{stand_in}
-use Rattle.journal_scan.specs.Content.{content_of, told}
+use Rattle.journal_scan.specs.Content.{node_content_of, told}
 use Rattle.journal_scan.specs.declared.journal_node.JournalNode.{JournalNode}
 use Rattle.log_replay.specs.Copies.{Ranked}
 use Rattle.log_replay.specs.KeyToldLaws.{if_set, told_key}
 use Rattle.log_replay.specs.Named.{in_named}
 use Rattle.log_replay.specs.Reading.{own_told, read_told, stand_in_told, unread_told, with_told}
 use Rattle.log_replay.specs.Replay.{told_committed}
-use Rattle.log_replay.specs.Settling.{HasCopies, HasGrammar, read_as, read_of}
+use Rattle.log_replay.specs.Settling.{HasCopies, HasGrammar, read_as, leaf_read_of}
 use Rattle.log_replay.specs.Things.{is_at_leaf, key_told}
 use Rattle.log_replay.specs.Told.{IsSetting, told_leaf}
 use Rattle.log_replay.proofs.Ranked.{KeyIs, RankIs, copy_told, rank_itself, rank_of_key}
@@ -79,7 +79,7 @@ tests false false l found by h = rw h refl
 pub own_is_told : (named : List Named) (m : BTreeMap ℕ ℕ) (c : Committed) → HasGrammar c → ((leaf : Leaf) → in_named m leaf ≡ in_bud named leaf) → own_told m (told_committed c) ≡ option_map told (own_node named c)
 own_is_told named m c g h = by c.found g
   where
-    at : (found : Placed) (s : Bool) → key_told (content_of found.node) ≡ if_set s (node_key found.node) → is_at_leaf c.leaf (told found) ≡ (s && same_leaf c.leaf (kept_at found).leaf)
+    at : (found : Placed) (s : Bool) → key_told (node_content_of found.node) ≡ if_set s (node_key found.node) → is_at_leaf c.leaf (told found) ≡ (s && same_leaf c.leaf (kept_at found).leaf)
     at found true e = rw e refl
     at found false e = rw e refl
 
@@ -131,7 +131,7 @@ none_in leaf e = by leaf.key refl e
 
 -- ---- a leaf that is read
 pub read_is_told : (parts : Parts) (m : BTreeMap ℕ ℕ) (ranked : Ranked) (c : Committed) → HasGrammar c → AllByRecursion (λ c. IsSetting c.node) parts.copies
-    → ((leaf : Leaf) → in_named m leaf ≡ in_bud parts.named leaf) → HasCopies parts.copies ranked → read_told m ranked (told_committed c) ≡ read_of parts c
+    → ((leaf : Leaf) → in_named m leaf ≡ in_bud parts.named leaf) → HasCopies parts.copies ranked → read_told m ranked (told_committed c) ≡ leaf_read_of parts c
 read_is_told parts m ranked c g copies h has = by (own_node parts.named c) refl (own_is_told parts.named m c g h)
   where
     with : (own : Bool) (k : Kept) (leaf : Leaf) → is_shown (shown_by k) ≡ true → RankIs (leaf_rank leaf) k.node → with_told ranked leaf own (Some (told_leaf k)) ≡ read_as parts leaf own (Some k)
@@ -143,13 +143,13 @@ read_is_told parts m ranked c g copies h has = by (own_node parts.named c) refl 
         let i = stands_in c.leaf node e in
         ap (with_told ranked c.leaf false) i.in_told ∙ with false (record { leaf = c.leaf; sqnum = 0; node = node }) c.leaf i.is_set (rank_of_key c.leaf node i.key)
 
-    by : (own : Option Placed) → own_node parts.named c ≡ own → own_told m (told_committed c) ≡ option_map told own → read_told m ranked (told_committed c) ≡ read_of parts c
+    by : (own : Option Placed) → own_node parts.named c ≡ own → own_told m (told_committed c) ≡ option_map told own → read_told m ranked (told_committed c) ≡ leaf_read_of parts c
     by None e t = rw (t, e) (unread (stand_in c.leaf.key) refl)
     by (Some own) e t =
         let o = owns parts.named c own g e in
         rw (t, e) (ap (λ (n : JournalNode). with_told ranked c.leaf true (Some n)) (told_own parts.named c own o) ∙ with true (record { leaf = c.leaf; sqnum = own.sqnum; node = own.node }) c.leaf o.setting.shown (own_rank parts.named c own o))
 
 pub reads_are_told : (parts : Parts) (m : BTreeMap ℕ ℕ) (ranked : Ranked) (cs : List Committed) → AllByRecursion HasGrammar cs → AllByRecursion (λ c. IsSetting c.node) parts.copies
-    → ((leaf : Leaf) → in_named m leaf ≡ in_bud parts.named leaf) → HasCopies parts.copies ranked → map (read_told m ranked) (map told_committed cs) ≡ map (read_of parts) cs
+    → ((leaf : Leaf) → in_named m leaf ≡ in_bud parts.named leaf) → HasCopies parts.copies ranked → map (read_told m ranked) (map told_committed cs) ≡ map (leaf_read_of parts) cs
 reads_are_told parts m ranked [] g copies h has = refl
 reads_are_told parts m ranked (c ∷ cs) g copies h has = rw (read_is_told parts m ranked c g.0 copies h has, reads_are_told parts m ranked cs g.1 copies h has) refl

@@ -17,10 +17,10 @@ use Rattle.fs_model.specs.declared.change.Change.TheVariants.{SetInode, SetEntry
 use Rattle.group_nodes.specs.Nodes.{change_of, gone_inode, inode_node}
 use Rattle.leaf_map.specs.After.{is_gone, is_idle, is_set, kept_after, kept_with, put_leaf, read}
 use Rattle.leaf_map.specs.Kept.{Kept, Placed, kept_at, shown, shown_by}
-use Rattle.leaf_map.specs.Allowed.{IsNodeOf}
+use Rattle.leaf_map.specs.Allowed.{IsNodeOfLeaves}
 use Rattle.leaf_map.specs.LeafMap.{HasKeyOf, IsKeyed, shows_same}
 use Rattle.leaf_map.specs.Parts.{Committed, Named, Parts, in_bud, is_own, is_shown, own_node}
-use Rattle.leaf_map.specs.Recovered.{copies_left, copy_of_key, found_leaves, in_order, is_original, leaf_at, leaves_found, placed_node, spare_copies, stand_in}
+use Rattle.leaf_map.specs.Recovered.{copies_left, copy_of_key, found_leaves, nodes_in_order, is_original, leaf_found_for, leaves_found, placed_node, spare_copies, stand_in}
 use Rattle.journal_scan.specs.Places.{HasNamedPlace, IsElsewhere, StandApart, at_one_place}
 use Rattle.journal_scan.specs.declared.journal_node.JournalNode.{JournalNode}
 use Rattle.log_replay.specs.Standing.{AreFresh, is_entry, leaves, names_in}
@@ -169,10 +169,10 @@ beside_none : (xs : List Placed) → Beside xs []
 beside_none [] = tt
 beside_none (x ∷ xs) = (tt, beside_none xs)
 
-pub order_apart : (nodes : List Placed) → StandApart nodes → StandApart (in_order nodes)
+pub order_apart : (nodes : List Placed) → StandApart nodes → StandApart (nodes_in_order nodes)
 order_apart nodes a = sorted_apart [] nodes tt a (beside_none nodes)
 
-pub order_all : (Q : Placed → Type 0) (nodes : List Placed) → AllByRecursion Q nodes → AllByRecursion Q (in_order nodes)
+pub order_all : (Q : Placed → Type 0) (nodes : List Placed) → AllByRecursion Q nodes → AllByRecursion Q (nodes_in_order nodes)
 order_all Q nodes a = sorted_all Q [] nodes tt a
 
 -- ---- the leaves that are found
@@ -223,15 +223,15 @@ found_names : (named : List Named) (Q : Leaf → Type 0) (copies : List Placed) 
 found_names named Q copies [] a b = tt
 found_names named Q copies (c ∷ committed) a b = by (λ cs q. found_names named Q cs committed a.1 q) (own_node named c) refl
   where
-    stand : HoldsOf named Q committed → (m : Option LeafNode) → stand_in c.leaf.key ≡ m → copy_of_key c.leaf copies ≡ None → OfNames Q (leaf_at copies c None ++ found_leaves named copies committed)
+    stand : HoldsOf named Q committed → (m : Option LeafNode) → stand_in c.leaf.key ≡ m → copy_of_key c.leaf copies ≡ None → OfNames Q (leaf_found_for copies c None ++ found_leaves named copies committed)
     stand more None s f = rw (f, s) (more copies b)
     stand more (Some m) s f = rw (f, s) ((λ h. absurd (false≢true (sym (stand_plain c.leaf.key m s) ∙ h))), more copies b)
 
-    copy : HoldsOf named Q committed → (d : Option Placed) → copy_of_key c.leaf copies ≡ d → OfNames Q (leaf_at copies c None ++ found_leaves named (copies_left copies c None) committed)
+    copy : HoldsOf named Q committed → (d : Option Placed) → copy_of_key c.leaf copies ≡ d → OfNames Q (leaf_found_for copies c None ++ found_leaves named (copies_left copies c None) committed)
     copy more (Some d) f = rw f ((λ h. find_all (λ z. Q (kept_at z).leaf) (λ z. leaf_rank (kept_at z).leaf == leaf_rank c.leaf) copies d b f), more (left d copies) (filter_all (λ z. Q (kept_at z).leaf) (λ z. not (shows_same (shown d.node) (shown z.node))) copies b))
-    copy more None f = subst (λ (z : List Placed). OfNames Q (leaf_at copies c None ++ found_leaves named z committed)) (rw f refl) (stand more (stand_in c.leaf.key) refl f)
+    copy more None f = subst (λ (z : List Placed). OfNames Q (leaf_found_for copies c None ++ found_leaves named z committed)) (rw f refl) (stand more (stand_in c.leaf.key) refl f)
 
-    by : HoldsOf named Q committed → (o : Option Placed) → own_node named c ≡ o → OfNames Q (leaf_at copies c o ++ found_leaves named (copies_left copies c o) committed)
+    by : HoldsOf named Q committed → (o : Option Placed) → own_node named c ≡ o → OfNames Q (leaf_found_for copies c o ++ found_leaves named (copies_left copies c o) committed)
     by more (Some n) e = ((λ h. a.0 (own_outside named c n e)), more copies b)
     by more None e = copy more (copy_of_key c.leaf copies) refl
 
@@ -295,11 +295,11 @@ found_differ named copies (x ∷ committed) c d =
     head : AllByRecursion (λ y. same_leaf x.leaf y ≡ false) (map (λ (z : Committed). z.leaf) committed)
     head = IsDistinct-head same_leaf x.leaf (map (λ (z : Committed). z.leaf) committed) d
 
-    stand : AreApartOf named committed → (m : Option LeafNode) → stand_in x.leaf.key ≡ m → copy_of_key x.leaf copies ≡ None → NamesDiffer (leaf_at copies x None ++ found_leaves named copies committed)
+    stand : AreApartOf named committed → (m : Option LeafNode) → stand_in x.leaf.key ≡ m → copy_of_key x.leaf copies ≡ None → NamesDiffer (leaf_found_for copies x None ++ found_leaves named copies committed)
     stand more None s f = rw (f, s) (more copies c)
     stand more (Some m) s f = rw (f, s) (one_more (record { leaf = x.leaf; sqnum = 0; node = m }) (found_leaves named copies committed) (λ h. absurd (false≢true (sym (stand_plain x.leaf.key m s) ∙ h))) (more copies c))
 
-    copy : AreApartOf named committed → (e : Option Placed) → copy_of_key x.leaf copies ≡ e → NamesDiffer (leaf_at copies x None ++ found_leaves named (copies_left copies x None) committed)
+    copy : AreApartOf named committed → (e : Option Placed) → copy_of_key x.leaf copies ≡ e → NamesDiffer (leaf_found_for copies x None ++ found_leaves named (copies_left copies x None) committed)
     copy more (Some e) f =
         let p : Placed → Bool = λ z. leaf_rank (kept_at z).leaf == leaf_rank x.leaf in
         let r : Placed → Bool = λ z. not (shows_same (shown e.node) (shown z.node)) in
@@ -308,9 +308,9 @@ found_differ named copies (x ∷ committed) c d =
         rw f (one_more (kept_at e) (found_leaves named (left e copies) committed)
         (λ h. found_names named (λ z. same_leaf (kept_at e).leaf z ≡ false) (left e copies) committed (own_beside_copy named e committed place) (elsewhere_leaf e (left e copies) (found_elsewhere p r copies e c.apart f itself)))
         (more (left e copies) (copies_filter named r copies c)))
-    copy more None f = subst (λ (z : List Placed). NamesDiffer (leaf_at copies x None ++ found_leaves named z committed)) (rw f refl) (stand more (stand_in x.leaf.key) refl f)
+    copy more None f = subst (λ (z : List Placed). NamesDiffer (leaf_found_for copies x None ++ found_leaves named z committed)) (rw f refl) (stand more (stand_in x.leaf.key) refl f)
 
-    by : AreApartOf named committed → (o : Option Placed) → own_node named x ≡ o → NamesDiffer (leaf_at copies x o ++ found_leaves named (copies_left copies x o) committed)
+    by : AreApartOf named committed → (o : Option Placed) → own_node named x ≡ o → NamesDiffer (leaf_found_for copies x o ++ found_leaves named (copies_left copies x o) committed)
     by more (Some n) e =
         let out = own_outside named x n e in
         one_more (record { leaf = x.leaf; sqnum = n.sqnum; node = n.node }) (found_leaves named copies committed)
@@ -369,7 +369,7 @@ itself_shown d h = by (shown d.node) h
     by (Some (SetEntry e)) t = name_here (key e) e refl
     by s t = absurd (false≢true t)
 
-node_shown : (kept : List Kept) (n : LeafNode) → AllByRecursion IsKeyed kept → IsNodeOf kept n → is_shown (shown n) ≡ true
+node_shown : (kept : List Kept) (n : LeafNode) → AllByRecursion IsKeyed kept → IsNodeOfLeaves kept n → is_shown (shown n) ≡ true
 node_shown [] n k h = absurd h
 node_shown (x ∷ kept) n k (inl e) = subst (λ (z : LeafNode). is_shown (shown z) ≡ true) (sym e) (keyed_shown (shown_by x) x.leaf k.0)
   where
@@ -385,7 +385,7 @@ copies_shown [] h = tt
 copies_shown (d ∷ copies) h = (itself_shown d h.0.shown, copies_shown copies h.1)
 
 -- nodes of leaves set something
-pub nodes_set : (kept : List Kept) (copies : List Placed) → AllByRecursion IsKeyed kept → AllByRecursion (λ d. IsLeaf d.node × IsNodeOf kept d.node) copies → AllByRecursion (λ c. IsSetting c.node) copies
+pub nodes_set : (kept : List Kept) (copies : List Placed) → AllByRecursion IsKeyed kept → AllByRecursion (λ d. IsLeaf d.node × IsNodeOfLeaves kept d.node) copies → AllByRecursion (λ c. IsSetting c.node) copies
 nodes_set kept [] k h = tt
 nodes_set kept (d ∷ copies) k h = (record { leaf = h.0.0; shown = node_shown kept d.node k h.0.1 }, nodes_set kept copies k h.1)
 
@@ -397,7 +397,7 @@ copies_far : (nodes copies : List Placed) → Beside copies nodes → OfCopies (
 copies_far nodes [] b = tt
 copies_far nodes (d ∷ copies) b = (b.0, copies_far nodes copies b.1)
 
-beside_order : (copies nodes : List Placed) → Beside copies nodes → Beside copies (in_order nodes)
+beside_order : (copies nodes : List Placed) → Beside copies nodes → Beside copies (nodes_in_order nodes)
 beside_order [] nodes b = tt
 beside_order (d ∷ copies) nodes b = (order_all (λ y. at_one_place d y ≡ false) nodes b.0, beside_order copies nodes b.1)
 
@@ -415,9 +415,9 @@ module _ (parts : Parts) (j : IsOfJournal parts) where
   pub names_differ : AreDistinct (leaves (names_in (leaves_found parts)))
   names_differ = found_differ parts.named (spare_copies parts) parts.committed ready j.distinct
 
-  pub nodes_fresh : AreFresh (leaves_found parts) (in_order parts.nodes)
+  pub nodes_fresh : AreFresh (leaves_found parts) (nodes_in_order parts.nodes)
   nodes_fresh =
-      let nodes = in_order parts.nodes in
+      let nodes = nodes_in_order parts.nodes in
       let named_nodes = order_all (HasNamedPlace parts.named) parts.nodes j.places.nodes_named in
       let beside = filter_all (λ x. IsElsewhere x nodes) spare parts.copies (beside_order parts.copies parts.nodes j.places.beside) in
       are_fresh (leaves_found parts) nodes (order_apart parts.nodes j.places.nodes_apart)
@@ -427,5 +427,5 @@ module _ (parts : Parts) (j : IsOfJournal parts) where
 pub leaves_told : (parts : Parts) (index : Index) (found nodes : List JournalNode) (listed : List ℕ) → IsToldBy parts index found nodes listed → AreLeavesOf (leaves_found parts) index found
 leaves_told parts index found nodes listed t = record { in_index = t.in_index; told = t.of_leaves; leaf_map = t.journal.found; distinct = names_differ parts t.journal }
 
-pub nodes_told : (parts : Parts) (index : Index) (found nodes : List JournalNode) (listed : List ℕ) → IsToldBy parts index found nodes listed → AreNodesOf (leaves_found parts) (in_order parts.nodes) nodes
+pub nodes_told : (parts : Parts) (index : Index) (found nodes : List JournalNode) (listed : List ℕ) → IsToldBy parts index found nodes listed → AreNodesOf (leaves_found parts) (nodes_in_order parts.nodes) nodes
 nodes_told parts index found nodes listed t = record { of_nodes = t.of_nodes; leaf_nodes = order_all (λ x. IsLeaf x.node) parts.nodes t.journal.places.leaf_nodes; fresh = nodes_fresh parts t.journal }

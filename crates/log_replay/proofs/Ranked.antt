@@ -16,12 +16,12 @@ use Rattle.fs_model.specs.declared.change.Change.TheVariants.{SetInode, SetEntry
 use Rattle.leaf_map.specs.Kept.{Kept, Placed, kept_at, shown, shown_by}
 use Rattle.leaf_map.specs.LeafMap.{HasKeyOf, shows_same}
 use Rattle.leaf_map.specs.Parts.{is_shown}
-use Rattle.leaf_map.specs.Recovered.{copy_of}
-use Rattle.journal_scan.specs.Content.{content_of, told}
+use Rattle.leaf_map.specs.Recovered.{copy_of_leaf}
+use Rattle.journal_scan.specs.Content.{node_content_of, told}
 use Rattle.journal_scan.specs.declared.journal_node.JournalNode.{JournalNode}
 use Rattle.log_replay.specs.Changes.{place_of_node}
-use Rattle.log_replay.specs.Copies.{at_rank, copy_place, first_taken, is_of_rank, others, Ranked}
-use Rattle.log_replay.specs.Settling.{HasCopies, copy_at, of_rank}
+use Rattle.log_replay.specs.Copies.{at_rank, copy_place, first_taken, is_of_rank, other_leaf_nodes, Ranked}
+use Rattle.log_replay.specs.Settling.{HasCopies, copy_at, copies_of_rank}
 use Rattle.log_replay.specs.Things.{is_same_told}
 use Rattle.log_replay.specs.Told.{IsSetting, told_leaf}
 use Rattle.log_replay.proofs.Noted.{number_at}
@@ -70,11 +70,11 @@ number_here r = sym (number_at r r) ∙ eq-eqb r r refl
 rank_told : (r : ℕ) (x : Placed) → IsSetting x.node → is_of_rank r (told x) ≡ is_at (nat_cmp (leaf_rank (kept_at x).leaf)) r
 rank_told r x is = rw (set_key x.node is) refl
 
-ranked_told : (r : ℕ) (xs : List Placed) → AllByRecursion (λ c. IsSetting c.node) xs → filter (is_of_rank r) (map told xs) ≡ map told (of_rank r xs)
+ranked_told : (r : ℕ) (xs : List Placed) → AllByRecursion (λ c. IsSetting c.node) xs → filter (is_of_rank r) (map told xs) ≡ map told (copies_of_rank r xs)
 ranked_told r [] a = refl
 ranked_told r (x ∷ xs) a = rw (rank_told r x a.0) (by (is_at (nat_cmp (leaf_rank (kept_at x).leaf)) r) (ranked_told r xs a.1))
   where
-    by : (b : Bool) → filter (is_of_rank r) (map told xs) ≡ map told (of_rank r xs) → cond b (told x ∷ filter (is_of_rank r) (map told xs)) (filter (is_of_rank r) (map told xs)) ≡ map told (cond b (x ∷ of_rank r xs) (of_rank r xs))
+    by : (b : Bool) → filter (is_of_rank r) (map told xs) ≡ map told (copies_of_rank r xs) → cond b (told x ∷ filter (is_of_rank r) (map told xs)) (filter (is_of_rank r) (map told xs)) ≡ map told (cond b (x ∷ copies_of_rank r xs) (copies_of_rank r xs))
     by true more = ap (λ z. told x ∷ z) more
     by false more = more
 
@@ -87,11 +87,11 @@ has_copies items copies ranked a e h r = h r ∙ ap (filter (is_of_rank r)) e �
 abbrev pub beside : LeafNode → List Placed → List Placed
 beside a copies = filter (λ c. not (shows_same (shown a) (shown c.node))) copies
 
-others_told : (a : LeafNode) (xs : List Placed) → is_shown (shown a) ≡ true → AllByRecursion (λ c. IsSetting c.node) xs → others (content_of a) (map told xs) ≡ map told (beside a xs)
+others_told : (a : LeafNode) (xs : List Placed) → is_shown (shown a) ≡ true → AllByRecursion (λ c. IsSetting c.node) xs → other_leaf_nodes (node_content_of a) (map told xs) ≡ map told (beside a xs)
 others_told a [] s all = refl
 others_told a (x ∷ xs) s all = rw (told_same a x.node s all.0.leaf) (by (shows_same (shown a) (shown x.node)) (others_told a xs s all.1))
   where
-    by : (b : Bool) → others (content_of a) (map told xs) ≡ map told (beside a xs) → cond (not b) (told x ∷ others (content_of a) (map told xs)) (others (content_of a) (map told xs)) ≡ map told (cond (not b) (x ∷ beside a xs) (beside a xs))
+    by : (b : Bool) → other_leaf_nodes (node_content_of a) (map told xs) ≡ map told (beside a xs) → cond (not b) (told x ∷ other_leaf_nodes (node_content_of a) (map told xs)) (other_leaf_nodes (node_content_of a) (map told xs)) ≡ map told (cond (not b) (x ∷ beside a xs) (beside a xs))
     by true more = more
     by false more = ap (λ z. told x ∷ z) more
 
@@ -107,62 +107,62 @@ pub filter_setting : (p : Placed → Bool) (xs : List Placed) → AllByRecursion
 filter_setting p xs a = filter_all (λ c. IsSetting c.node) p xs a
 
 -- of one place in the order those go that show the same as a node of that place, and of the others none
-dropped_at : (r q : ℕ) (a : LeafNode) (xs : List Placed) → RankIs r a → AllByRecursion (λ c. IsSetting c.node) xs → cond (is_at (nat_cmp r) q) (beside a (of_rank q xs)) (of_rank q xs) ≡ of_rank q (beside a xs)
+dropped_at : (r q : ℕ) (a : LeafNode) (xs : List Placed) → RankIs r a → AllByRecursion (λ c. IsSetting c.node) xs → cond (is_at (nat_cmp r) q) (beside a (copies_of_rank q xs)) (copies_of_rank q xs) ≡ copies_of_rank q (beside a xs)
 dropped_at r q a xs h all = by (is_at (nat_cmp r) q) refl xs all
   where
-    by : (b : Bool) → is_at (nat_cmp r) q ≡ b → (ys : List Placed) → AllByRecursion (λ c. IsSetting c.node) ys → cond b (beside a (of_rank q ys)) (of_rank q ys) ≡ of_rank q (beside a ys)
+    by : (b : Bool) → is_at (nat_cmp r) q ≡ b → (ys : List Placed) → AllByRecursion (λ c. IsSetting c.node) ys → cond b (beside a (copies_of_rank q ys)) (copies_of_rank q ys) ≡ copies_of_rank q (beside a ys)
     by true e [] all = refl
     by false e [] all = refl
     by true e (y ∷ ys) all = one (is_at (nat_cmp (leaf_rank (kept_at y).leaf)) q) refl (shows_same (shown a) (shown y.node)) refl (by true e ys all.1)
       where
-        one : (c : Bool) → is_at (nat_cmp (leaf_rank (kept_at y).leaf)) q ≡ c → (s : Bool) → shows_same (shown a) (shown y.node) ≡ s → beside a (of_rank q ys) ≡ of_rank q (beside a ys)
-            → beside a (cond c (y ∷ of_rank q ys) (of_rank q ys)) ≡ of_rank q (cond (not s) (y ∷ beside a ys) (beside a ys))
+        one : (c : Bool) → is_at (nat_cmp (leaf_rank (kept_at y).leaf)) q ≡ c → (s : Bool) → shows_same (shown a) (shown y.node) ≡ s → beside a (copies_of_rank q ys) ≡ copies_of_rank q (beside a ys)
+            → beside a (cond c (y ∷ copies_of_rank q ys) (copies_of_rank q ys)) ≡ copies_of_rank q (cond (not s) (y ∷ beside a ys) (beside a ys))
         one true f true g more = rw g more
         one true f false g more = rw (f, g) (ap (λ z. y ∷ z) more)
         one false f true g more = more
         one false f false g more = rw f more
     by false e (y ∷ ys) all = one (is_at (nat_cmp (leaf_rank (kept_at y).leaf)) q) refl (shows_same (shown a) (shown y.node)) refl (by false e ys all.1)
       where
-        one : (c : Bool) → is_at (nat_cmp (leaf_rank (kept_at y).leaf)) q ≡ c → (s : Bool) → shows_same (shown a) (shown y.node) ≡ s → of_rank q ys ≡ of_rank q (beside a ys)
-            → cond c (y ∷ of_rank q ys) (of_rank q ys) ≡ of_rank q (cond (not s) (y ∷ beside a ys) (beside a ys))
+        one : (c : Bool) → is_at (nat_cmp (leaf_rank (kept_at y).leaf)) q ≡ c → (s : Bool) → shows_same (shown a) (shown y.node) ≡ s → copies_of_rank q ys ≡ copies_of_rank q (beside a ys)
+            → cond c (y ∷ copies_of_rank q ys) (copies_of_rank q ys) ≡ copies_of_rank q (cond (not s) (y ∷ beside a ys) (beside a ys))
         one true f true g more = absurd (false≢true (sym e ∙ ap (λ (n : ℕ). is_at (nat_cmp n) q) (sym (h y all.0 g)) ∙ f))
         one true f false g more = rw f (ap (λ z. y ∷ z) more)
         one false f true g more = more
         one false f false g more = rw f more
 
 pub drops : (r : ℕ) (a : LeafNode) (left : List Placed) (old new : Ranked) → is_shown (shown a) ≡ true → RankIs r a → AllByRecursion (λ c. IsSetting c.node) left → HasCopies left old
-    → ((q : ℕ) → at_rank new q ≡ cond (is_at (nat_cmp r) q) (others (content_of a) (at_rank old q)) (at_rank old q)) → HasCopies (beside a left) new
+    → ((q : ℕ) → at_rank new q ≡ cond (is_at (nat_cmp r) q) (other_leaf_nodes (node_content_of a) (at_rank old q)) (at_rank old q)) → HasCopies (beside a left) new
 drops r a left old new s h all has d q =
-    d q ∙ ap (λ z. cond (is_at (nat_cmp r) q) (others (content_of a) z) z) (has q)
-    ∙ ap (λ z. cond (is_at (nat_cmp r) q) z (map told (of_rank q left))) (others_told a (of_rank q left) s (filter_all (λ c. IsSetting c.node) (λ c. is_at (nat_cmp (leaf_rank (kept_at c).leaf)) q) left all))
+    d q ∙ ap (λ z. cond (is_at (nat_cmp r) q) (other_leaf_nodes (node_content_of a) z) z) (has q)
+    ∙ ap (λ z. cond (is_at (nat_cmp r) q) z (map told (copies_of_rank q left))) (others_told a (copies_of_rank q left) s (filter_all (λ c. IsSetting c.node) (λ c. is_at (nat_cmp (leaf_rank (kept_at c).leaf)) q) left all))
     ∙ out (is_at (nat_cmp r) q) ∙ ap (map told) (dropped_at r q a left h all)
   where
-    out : (b : Bool) → cond b (map told (beside a (of_rank q left))) (map told (of_rank q left)) ≡ map told (cond b (beside a (of_rank q left)) (of_rank q left))
+    out : (b : Bool) → cond b (map told (beside a (copies_of_rank q left))) (map told (copies_of_rank q left)) ≡ map told (cond b (beside a (copies_of_rank q left)) (copies_of_rank q left))
     out true = refl
     out false = refl
 
 -- ---- taken
-pub first_told : (r : ℕ) (xs : List Placed) → slice_get (map told (of_rank r xs)) 0 ≡ option_map told (find (λ c. leaf_rank (kept_at c).leaf == r) xs)
+pub first_told : (r : ℕ) (xs : List Placed) → slice_get (map told (copies_of_rank r xs)) 0 ≡ option_map told (find (λ c. leaf_rank (kept_at c).leaf == r) xs)
 first_told r [] = refl
 first_told r (x ∷ xs) = by (is_at (nat_cmp (leaf_rank (kept_at x).leaf)) r) (leaf_rank (kept_at x).leaf == r) (number_at (leaf_rank (kept_at x).leaf) r) (first_told r xs)
   where
-    by : (b d : Bool) → d ≡ b → slice_get (map told (of_rank r xs)) 0 ≡ option_map told (find (λ c. leaf_rank (kept_at c).leaf == r) xs)
-        → slice_get (map told (cond b (x ∷ of_rank r xs) (of_rank r xs))) 0 ≡ option_map told (cond d (Some x) (find (λ c. leaf_rank (kept_at c).leaf == r) xs))
+    by : (b d : Bool) → d ≡ b → slice_get (map told (copies_of_rank r xs)) 0 ≡ option_map told (find (λ c. leaf_rank (kept_at c).leaf == r) xs)
+        → slice_get (map told (cond b (x ∷ copies_of_rank r xs) (copies_of_rank r xs))) 0 ≡ option_map told (cond d (Some x) (find (λ c. leaf_rank (kept_at c).leaf == r) xs))
     by true true e more = refl
     by false false e more = more
     by true false e more = absurd (false≢true e)
     by false true e more = absurd (false≢true (sym e))
 
 -- where one is found, the others of its key are those behind it
-taken_told : (r : ℕ) (d : Placed) (xs : List Placed) → is_same_told (content_of d.node) (content_of d.node) ≡ true → find (λ c. leaf_rank (kept_at c).leaf == r) xs ≡ Some d
-    → first_taken (map told (of_rank r xs)) ≡ others (content_of d.node) (map told (of_rank r xs))
-taken_told r d xs self f = by (of_rank r xs) (sym (ap (option_map told) f) ∙ sym (first_told r xs))
+taken_told : (r : ℕ) (d : Placed) (xs : List Placed) → is_same_told (node_content_of d.node) (node_content_of d.node) ≡ true → find (λ c. leaf_rank (kept_at c).leaf == r) xs ≡ Some d
+    → first_taken (map told (copies_of_rank r xs)) ≡ other_leaf_nodes (node_content_of d.node) (map told (copies_of_rank r xs))
+taken_told r d xs self f = by (copies_of_rank r xs) (sym (ap (option_map told) f) ∙ sym (first_told r xs))
   where
-    by : (ys : List Placed) → Some (told d) ≡ slice_get (map told ys) 0 → first_taken (map told ys) ≡ others (content_of d.node) (map told ys)
+    by : (ys : List Placed) → Some (told d) ≡ slice_get (map told ys) 0 → first_taken (map told ys) ≡ other_leaf_nodes (node_content_of d.node) (map told ys)
     by [] e = absurd cc
     by (y ∷ ys) e =
         let same : told d ≡ told y = cc in
-        let content : content_of y.node ≡ content_of d.node = ap (λ (n : JournalNode). n.content) (sym same) in
+        let content : node_content_of y.node ≡ node_content_of d.node = ap (λ (n : JournalNode). n.content) (sym same) in
         rw (content, self) refl
 
 pub find_all : (Q : Placed → Type 0) (p : Placed → Bool) (ds : List Placed) (d : Placed) → AllByRecursion Q ds → find p ds ≡ Some d → Q d
@@ -198,11 +198,11 @@ takes r d left old new all f has t =
     let rank = found_rank r left d f in
     drops r d.node left old new is.shown (subst (λ (n : ℕ). RankIs n d.node) rank (rank_itself d is)) all has (λ q. t q ∙ same self q (is_at (nat_cmp r) q) refl)
   where
-    same : is_same_told (content_of d.node) (content_of d.node) ≡ true → (q : ℕ) (b : Bool) → is_at (nat_cmp r) q ≡ b → cond b (first_taken (at_rank old q)) (at_rank old q) ≡ cond b (others (content_of d.node) (at_rank old q)) (at_rank old q)
+    same : is_same_told (node_content_of d.node) (node_content_of d.node) ≡ true → (q : ℕ) (b : Bool) → is_at (nat_cmp r) q ≡ b → cond b (first_taken (at_rank old q)) (at_rank old q) ≡ cond b (other_leaf_nodes (node_content_of d.node) (at_rank old q)) (at_rank old q)
     same self q false e = refl
     same self q true e =
         let here : r ≡ q = number_same r q e in
-        ap first_taken (has q) ∙ taken_told q d left self (subst (λ (n : ℕ). find (λ c. leaf_rank (kept_at c).leaf == n) left ≡ Some d) here f) ∙ sym (ap (others (content_of d.node)) (has q))
+        ap first_taken (has q) ∙ taken_told q d left self (subst (λ (n : ℕ). find (λ c. leaf_rank (kept_at c).leaf == n) left ≡ Some d) here f) ∙ sym (ap (other_leaf_nodes (node_content_of d.node)) (has q))
 
 -- where none is found, none is there
 pub takes_none : (r : ℕ) (left : List Placed) (old new : Ranked) → find (λ c. leaf_rank (kept_at c).leaf == r) left ≡ None → HasCopies left old
@@ -217,20 +217,20 @@ takes_none r left old new f has t q = t q ∙ by (is_at (nat_cmp r) q) refl ∙ 
     by false e = refl
     by true e =
         let here : r ≡ q = number_same r q e in
-        let empty : slice_get (map told (of_rank q left)) 0 ≡ None = first_told q left ∙ ap (option_map told) (subst (λ (n : ℕ). find (λ c. leaf_rank (kept_at c).leaf == n) left ≡ None) here f) in
-        ap first_taken (has q) ∙ none (of_rank q left) empty ∙ sym (has q)
+        let empty : slice_get (map told (copies_of_rank q left)) 0 ≡ None = first_told q left ∙ ap (option_map told) (subst (λ (n : ℕ). find (λ c. leaf_rank (kept_at c).leaf == n) left ≡ None) here f) in
+        ap first_taken (has q) ∙ none (copies_of_rank q left) empty ∙ sym (has q)
 
 -- ---- found
-pub copy_told : (k : Kept) (r : ℕ) (copies : List Placed) → is_shown (shown_by k) ≡ true → RankIs r k.node → AllByRecursion (λ c. IsSetting c.node) copies → copy_place (told_leaf k) (map told (of_rank r copies)) ≡ copy_at copies k
+pub copy_told : (k : Kept) (r : ℕ) (copies : List Placed) → is_shown (shown_by k) ≡ true → RankIs r k.node → AllByRecursion (λ c. IsSetting c.node) copies → copy_place (told_leaf k) (map told (copies_of_rank r copies)) ≡ copy_at copies k
 copy_told k r [] s h all = refl
 copy_told k r (x ∷ copies) s h all = by (is_at (nat_cmp (leaf_rank (kept_at x).leaf)) r) refl (copy_told k r copies s h all.1)
   where
-    whole : ((x.sqnum == k.sqnum) && is_same_told (content_of k.node) (content_of x.node)) ≡ ((x.sqnum == k.sqnum) && shows_same (shown_by k) (shown x.node))
+    whole : ((x.sqnum == k.sqnum) && is_same_told (node_content_of k.node) (node_content_of x.node)) ≡ ((x.sqnum == k.sqnum) && shows_same (shown_by k) (shown x.node))
     whole = ap (λ (b : Bool). (x.sqnum == k.sqnum) && b) (told_same k.node x.node s all.0.leaf)
 
-    test : (b : Bool) → copy_place (told_leaf k) (map told (of_rank r copies)) ≡ copy_at copies k
-        → option_map place_of_node (cond b (Some (told x)) (find (λ c. (c.sqnum == k.sqnum) && is_same_told (content_of k.node) c.content) (map told (of_rank r copies))))
-        ≡ option_map (λ (c : Placed). record { lnum = c.lnum; offs = c.offs; len = c.len }) (cond b (Some x) (copy_of copies k))
+    test : (b : Bool) → copy_place (told_leaf k) (map told (copies_of_rank r copies)) ≡ copy_at copies k
+        → option_map place_of_node (cond b (Some (told x)) (find (λ c. (c.sqnum == k.sqnum) && is_same_told (node_content_of k.node) c.content) (map told (copies_of_rank r copies))))
+        ≡ option_map (λ (c : Placed). record { lnum = c.lnum; offs = c.offs; len = c.len }) (cond b (Some x) (copy_of_leaf copies k))
     test true more = refl
     test false more = more
 
@@ -238,10 +238,10 @@ copy_told k r (x ∷ copies) s h all = by (is_at (nat_cmp (leaf_rank (kept_at x)
     none true e f = absurd (false≢true (sym f ∙ ap (λ (n : ℕ). is_at (nat_cmp n) r) (h x all.0 e) ∙ number_here r))
     none false e f = rw e (both (x.sqnum == k.sqnum))
       where
-        both : (b : Bool) → copy_at copies k ≡ option_map (λ (c : Placed). record { lnum = c.lnum; offs = c.offs; len = c.len }) (cond (b && false) (Some x) (copy_of copies k))
+        both : (b : Bool) → copy_at copies k ≡ option_map (λ (c : Placed). record { lnum = c.lnum; offs = c.offs; len = c.len }) (cond (b && false) (Some x) (copy_of_leaf copies k))
         both true = refl
         both false = refl
 
-    by : (b : Bool) → is_at (nat_cmp (leaf_rank (kept_at x).leaf)) r ≡ b → copy_place (told_leaf k) (map told (of_rank r copies)) ≡ copy_at copies k → copy_place (told_leaf k) (map told (cond b (x ∷ of_rank r copies) (of_rank r copies))) ≡ copy_at (x ∷ copies) k
+    by : (b : Bool) → is_at (nat_cmp (leaf_rank (kept_at x).leaf)) r ≡ b → copy_place (told_leaf k) (map told (copies_of_rank r copies)) ≡ copy_at copies k → copy_place (told_leaf k) (map told (cond b (x ∷ copies_of_rank r copies) (copies_of_rank r copies))) ≡ copy_at (x ∷ copies) k
     by true e more = rw whole (test ((x.sqnum == k.sqnum) && shows_same (shown_by k) (shown x.node)) more)
     by false e more = more ∙ none (shows_same (shown_by k) (shown x.node)) refl e

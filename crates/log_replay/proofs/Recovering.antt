@@ -13,9 +13,9 @@ use Rattle.index_tree.specs.Tree.{shape}
 use Rattle.leaf_map.specs.Kept.{Kept, Placed, node_key}
 use Rattle.leaf_map.specs.LeafMap.{IsKeyed}
 use Rattle.leaf_map.specs.Parts.{Committed, Named, Parts}
-use Rattle.leaf_map.specs.Recovered.{highest_key, in_order, is_original, leaves_after, leaves_found, leaves_left, listed_left, placed_node, recovered_of, spare_copies}
+use Rattle.leaf_map.specs.Recovered.{highest_key, nodes_in_order, is_original, leaves_after, leaves_found, leaves_left, listed_left, placed_node, recovered_of, spare_copies}
 use Rattle.journal_scan.specs.Content.{told}
-use Rattle.journal_scan.specs.Journal.{BudRead, copies_in, nodes_in}
+use Rattle.journal_scan.specs.Journal.{BudRead, copies_in, journal_nodes_in}
 use Rattle.journal_scan.specs.Places.{HasNamedPlace, named_by}
 use Rattle.journal_scan.specs.declared.bud_text.BudText.{BudText}
 use Rattle.journal_scan.specs.declared.journal_node.JournalNode.{JournalNode}
@@ -27,12 +27,12 @@ use Rattle.log_replay.specs.Copies.{Ranked, at_rank, is_of_rank}
 use Rattle.log_replay.specs.Moving.{candidate_at, candidates_of, moved_all, outside}
 use Rattle.log_replay.specs.Named.{IsNamed}
 use Rattle.log_replay.specs.Noting.{Says}
-use Rattle.log_replay.specs.Placing.{ArePlaced, AreSettled, LeafFound, pair_told, present}
+use Rattle.log_replay.specs.Placing.{ArePlaced, AreSettled, LeafFound, pair_told, present_leaves}
 use Rattle.log_replay.specs.Reading.{read_told}
 use Rattle.log_replay.specs.Replay.{AreFound, AreParts, CanFind, CanRecover, NameTheSame, highest_of, highest_read, told_committed}
-use Rattle.log_replay.specs.Settling.{CanSettle, HasCopies, read_of, settled_of, spare_of}
+use Rattle.log_replay.specs.Settling.{CanSettle, HasCopies, leaf_read_of, settled_of, spare_of}
 use Rattle.log_replay.specs.Spared.{unspared}
-use Rattle.log_replay.specs.Standing.{Stands, leaves, leaves_in}
+use Rattle.log_replay.specs.Standing.{StandsForLeaves, leaves, leaves_in}
 use Rattle.log_replay.specs.Told.{AreNodesOf, IsOfJournal, without_orphans}
 use Rattle.log_replay.proofs.Carried.{nodes_carried, orphans_carried, start_carried}
 use Rattle.log_replay.proofs.Distinct.{all_distinct}
@@ -47,13 +47,13 @@ use Rattle.log_replay.proofs.Sparing.{left_told}
 -- ---- first
 pub leaves_are_found : (parts : Parts) (committed : List CommittedLeaf) (references : List Named) (copies : List JournalNode) (m : BTreeMap ℕ ℕ) (ranked spare : Ranked) (reads settled : List ReadLeaf) (outer : List Candidate)
     → CanFind parts committed references copies → IsNamed references m → ((r : ℕ) → at_rank ranked r ≡ filter (is_of_rank r) copies) → reads ≡ map (read_told m ranked) committed
-    → ((parts : Parts) (cs : List Committed) (left : List Placed) → CanSettle parts cs left → reads ≡ map (read_of parts) cs → HasCopies left ranked → HasCopies (spare_of parts cs left) spare)
-    → ((parts : Parts) (cs : List Committed) (left : List Placed) → CanSettle parts cs left → reads ≡ map (read_of parts) cs → HasCopies left spare → settled ≡ settled_of parts left cs)
+    → ((parts : Parts) (cs : List Committed) (left : List Placed) → CanSettle parts cs left → reads ≡ map (leaf_read_of parts) cs → HasCopies left ranked → HasCopies (spare_of parts cs left) spare)
+    → ((parts : Parts) (cs : List Committed) (left : List Placed) → CanSettle parts cs left → reads ≡ map (leaf_read_of parts) cs → HasCopies left spare → settled ≡ settled_of parts left cs)
     → outer ≡ candidates_of m settled → AreFound parts settled outer
 leaves_are_found parts committed references copies m ranked spare reads settled outer is named ranks read drops settles outers =
     let set = is.journal.copies in
     let has : HasCopies parts.copies ranked = has_copies copies parts.copies ranked set is.copies ranks in
-    let as_read : reads ≡ map (read_of parts) parts.committed =
+    let as_read : reads ≡ map (leaf_read_of parts) parts.committed =
     read ∙ ap (map (read_told m ranked)) is.of_leaves ∙ reads_are_told parts m ranked parts.committed is.grammar set (λ leaf. named.bud leaf ∙ sym (is.named.bud leaf)) has in
     let left = spare_copies parts in
     let spare_set = filter_setting (λ c. not (list_any (is_original parts.named c) parts.committed)) parts.copies set in
@@ -70,7 +70,7 @@ module _ (parts : Parts) (j : IsOfJournal parts) where
   abbrev pub fs : List LeafFound
   fs = founds parts (spare_copies parts) parts.committed
 
-  presents : present fs ≡ leaves_found parts
+  presents : present_leaves fs ≡ leaves_found parts
   presents = found_present parts (spare_copies parts) parts.committed
 
   pub start_settled : (index : Index) (s : Standing) (settled : List ReadLeaf) → contents (shape index.root) ≡ map (λ c. c.leaf) parts.committed → s.index ≡ index → Says [] s → settled ≡ settled_of parts (spare_copies parts) parts.committed
@@ -83,24 +83,24 @@ module _ (parts : Parts) (j : IsOfJournal parts) where
     says = says;
   }
 
-  pub placed_stands : (s : Standing) → ArePlaced fs s → Stands (leaves_found parts) s
+  pub placed_stands : (s : Standing) → ArePlaced fs s → StandsForLeaves (leaves_found parts) s
   placed_stands s p =
       let q : ArePlaced fs s = p in
       let i : leaves_in s ≡ leaves (leaves_found parts) = p.in_index ∙ ap leaves presents in
       let says : Says (leaves_found parts) s = subst (λ (ks : List Kept). Says ks s) presents p.says in
       record { in_index = i; leaf_map = j.found; distinct = names_differ parts j; inodes = says.inodes; names = says.names }
 
-  pub nodes_are : (applied : List JournalNode) → applied ≡ map told (in_order parts.nodes) → AreNodesOf (leaves_found parts) (in_order parts.nodes) applied
+  pub nodes_are : (applied : List JournalNode) → applied ≡ map told (nodes_in_order parts.nodes) → AreNodesOf (leaves_found parts) (nodes_in_order parts.nodes) applied
   nodes_are applied e = record { of_nodes = e; leaf_nodes = order_all (λ x. IsLeaf x.node) parts.nodes j.places.leaf_nodes; fresh = nodes_fresh parts j }
 
-  pub recovered : (outer : List Candidate) (s : Standing) (listed : List ℕ) → listed_left parts ≡ listed → Stands (without_orphans (leaves_after (leaves_found parts) (in_order parts.nodes)) listed) s → (settled : List ReadLeaf) → AreFound parts settled outer
+  pub recovered : (outer : List Candidate) (s : Standing) (listed : List ℕ) → listed_left parts ≡ listed → StandsForLeaves (without_orphans (leaves_after (leaves_found parts) (nodes_in_order parts.nodes)) listed) s → (settled : List ReadLeaf) → AreFound parts settled outer
       → moved_all outer (leaves_in s) ≡ leaves (recovered_of parts).kept
   recovered outer s listed e st settled found =
       let found_all = leaves_found parts in
       let left = leaves_left parts in
-      let here : Stands left s = subst (λ (inos : List ℕ). Stands (without_orphans (leaves_after found_all (in_order parts.nodes)) inos) s) (sym e) st in
-      let carried = orphans_carried parts.named found_all (leaves_after found_all (in_order parts.nodes)) (listed_left parts)
-      (nodes_carried parts.named found_all found_all (in_order parts.nodes) (order_all (HasNamedPlace parts.named) parts.nodes j.places.nodes_named) (start_carried parts.named found_all)) in
+      let here : StandsForLeaves left s = subst (λ (inos : List ℕ). StandsForLeaves (without_orphans (leaves_after found_all (nodes_in_order parts.nodes)) inos) s) (sym e) st in
+      let carried = orphans_carried parts.named found_all (leaves_after found_all (nodes_in_order parts.nodes)) (listed_left parts)
+      (nodes_carried parts.named found_all found_all (nodes_in_order parts.nodes) (order_all (HasNamedPlace parts.named) parts.nodes j.places.nodes_named) (start_carried parts.named found_all)) in
       ap (λ (z : List Candidate). moved_all z (leaves_in s)) found.candidates ∙ ap (moved_all (map (candidate_at parts.copies) (outside parts.named found_all))) here.in_index
       ∙ all_moved parts found_all left here.leaf_map.keyed j.found.keyed carried (all_distinct found_all j.found.keyed j.found.apart (names_differ parts j)) j.copies j.places.copies_named
       (all_distinct left here.leaf_map.keyed here.leaf_map.apart here.distinct)
@@ -117,23 +117,23 @@ committed_keys : (n : ℕ) (cs : List Committed) → fold (λ m x. max m (key_wo
 committed_keys n [] = refl
 committed_keys n (c ∷ cs) = committed_keys (max n (key_words c.leaf.key).0) cs
 
-pub highest_is : (committed : List CommittedLeaf) (reads : List BudRead) (read : ℕ) → read ≡ highest_key 0 (map (λ x. node_key x.node) (in_order (nodes_in reads))) → max (highest_of committed) read ≡ highest_read committed reads
-highest_is committed reads read r = let a = highest_more (highest_of committed) (map (λ x. node_key x.node) (in_order (nodes_in reads))) in omega (arith, a, r)
+pub highest_is : (committed : List CommittedLeaf) (reads : List BudRead) (read : ℕ) → read ≡ highest_key 0 (map (λ x. node_key x.node) (nodes_in_order (journal_nodes_in reads))) → max (highest_of committed) read ≡ highest_read committed reads
+highest_is committed reads read r = let a = highest_more (highest_of committed) (map (λ x. node_key x.node) (nodes_in_order (journal_nodes_in reads))) in omega (arith, a, r)
 
 highest_all : (parts : Parts) (committed : List CommittedLeaf) → committed ≡ map told_committed parts.committed
-    → max parts.highest (highest_key (highest_of committed) (map (λ x. node_key x.node) (in_order parts.nodes))) ≡ (recovered_of parts).highest
+    → max parts.highest (highest_key (highest_of committed) (map (λ x. node_key x.node) (nodes_in_order parts.nodes))) ≡ (recovered_of parts).highest
 highest_all parts committed e =
     let a : highest_of committed ≡ highest_key 0 (map (λ c. c.leaf.key) parts.committed) = ap highest_of e ∙ committed_keys 0 parts.committed in
     let b = highest_more parts.highest (map (λ c. c.leaf.key) parts.committed) in
-    let d = highest_more (highest_key parts.highest (map (λ c. c.leaf.key) parts.committed)) (map (λ x. node_key x.node) (in_order parts.nodes)) in
-    let r = highest_more (highest_of committed) (map (λ x. node_key x.node) (in_order parts.nodes)) in
+    let d = highest_more (highest_key parts.highest (map (λ c. c.leaf.key) parts.committed)) (map (λ x. node_key x.node) (nodes_in_order parts.nodes)) in
+    let r = highest_more (highest_of committed) (map (λ x. node_key x.node) (nodes_in_order parts.nodes)) in
     omega (arith, a, b, d, r)
 
 -- and with the master's number it is the recovered one
 pub highest_recovered : (parts : Parts) (reads : List BudRead) (index : Index) (committed : List CommittedLeaf) (listed : List ℕ) → AreParts parts reads index committed listed
     → max parts.highest (highest_read committed reads) ≡ (recovered_of parts).highest
 highest_recovered parts reads index committed listed is =
-    ap (λ (ns : List Placed). max parts.highest (highest_key (highest_of committed) (map (λ x. node_key x.node) (in_order ns)))) (sym is.nodes) ∙ highest_all parts committed is.told
+    ap (λ (ns : List Placed). max parts.highest (highest_key (highest_of committed) (map (λ x. node_key x.node) (nodes_in_order ns)))) (sym is.nodes) ∙ highest_all parts committed is.told
 
 placed_length : (nodes : List Placed) (new : Placed) → length (placed_node nodes new) ≡ length nodes + 1
 placed_length [] new = refl
@@ -147,10 +147,10 @@ order_length : (acc nodes : List Placed) → length (fold placed_node acc nodes)
 order_length acc [] = omega arith
 order_length acc (x ∷ nodes) = let a = order_length (placed_node acc x) nodes in let b = placed_length acc x in omega (arith, a, b)
 
-pub nodes_counted : (nodes : List Placed) (applied : List JournalNode) → applied ≡ map told (in_order nodes) → length applied ≡ length nodes
+pub nodes_counted : (nodes : List Placed) (applied : List JournalNode) → applied ≡ map told (nodes_in_order nodes) → length applied ≡ length nodes
 nodes_counted nodes applied e =
     let a = ap length e in
-    let b = map_length (in_order nodes) in
+    let b = map_length (nodes_in_order nodes) in
     let d = order_length [] nodes in
     omega (arith, a, b, d)
   where
@@ -177,10 +177,10 @@ parts_read parts reads buds index committed listed copies is of copy = record {
 }
 
 pub parts_recover : (parts : Parts) (reads : List BudRead) (buds : List BudText) (m : BTreeMap ℕ ℕ) (index : Index) (committed : List CommittedLeaf) (listed left : List ℕ) (applied : List JournalNode) → AreParts parts reads index committed listed
-    → map (λ x. x.bud) reads ≡ buds → IsNamed (map named_by buds) m → left ≡ unspared m committed listed → applied ≡ map told (in_order (nodes_in reads)) → CanRecover parts index applied left
+    → map (λ x. x.bud) reads ≡ buds → IsNamed (map named_by buds) m → left ≡ unspared m committed listed → applied ≡ map told (nodes_in_order (journal_nodes_in reads)) → CanRecover parts index applied left
 parts_recover parts reads buds m index committed listed left applied is of named l e = record {
   in_index = is.in_index;
-  nodes = e ∙ sym (ap (λ (ns : List Placed). map told (in_order ns)) is.nodes);
+  nodes = e ∙ sym (ap (λ (ns : List Placed). map told (nodes_in_order ns)) is.nodes);
   list = left_told parts m (λ leaf. named.bud leaf ∙ sym (here.bud leaf)) ∙ ap (λ (cs : List CommittedLeaf). unspared m cs parts.listed) (sym is.told) ∙ ap (unspared m committed) is.list ∙ sym l;
   journal = is.journal;
 }

@@ -7,19 +7,19 @@ use Rattle.leaf_map.specs.Recovered.{leaves_after}
 use Rattle.journal_scan.specs.Content.{told}
 use Rattle.journal_scan.specs.declared.journal_node.JournalNode.{JournalNode}
 use Rattle.log_replay.specs.declared.standing.Standing.{Standing}
-use Rattle.log_replay.specs.Standing.{IsFresh, Stands}
+use Rattle.log_replay.specs.Standing.{IsFreshPlace, StandsForLeaves}
 use Rattle.log_replay.specs.Told.{AreNodesOf}
 
 -- the nodes that are left lead to these leaves
 pub record Leads (last : List Kept) (s : Standing) (items : List JournalNode) : Type 0 where
   pub kept : List Kept
   pub placed : List Placed
-  pub stands : Stands kept s
+  pub stands : StandsForLeaves kept s
   pub nodes : AreNodesOf kept placed items
   pub leads : leaves_after kept placed ≡ last
 
 pub lead_on : (last : List Kept) (s t : Standing) (x : JournalNode) (rest : List JournalNode) → Leads last s (x ∷ rest)
-    → ((kept : List Kept) (new : Placed) → x ≡ told new → IsLeaf new.node → IsFresh kept new → Stands kept s → Stands (kept_after kept new) t) → Leads last t rest
+    → ((kept : List Kept) (new : Placed) → x ≡ told new → IsLeaf new.node → IsFreshPlace kept new → StandsForLeaves kept s → StandsForLeaves (kept_after kept new) t) → Leads last t rest
 lead_on last s t x rest l step = by l.placed l.nodes l.leads
   where
     by : (placed : List Placed) → AreNodesOf l.kept placed (x ∷ rest) → leaves_after l.kept placed ≡ last → Leads last t rest
@@ -36,9 +36,9 @@ lead_on last s t x rest l step = by l.placed l.nodes l.leads
           leads = e;
         }
 
-pub lead_end : (last : List Kept) (s : Standing) → Leads last s [] → Stands last s
+pub lead_end : (last : List Kept) (s : Standing) → Leads last s [] → StandsForLeaves last s
 lead_end last s l = by l.placed l.nodes l.leads
   where
-    by : (placed : List Placed) → AreNodesOf l.kept placed [] → leaves_after l.kept placed ≡ last → Stands last s
-    by [] n e = subst (λ (ks : List Kept). Stands ks s) e l.stands
+    by : (placed : List Placed) → AreNodesOf l.kept placed [] → leaves_after l.kept placed ≡ last → StandsForLeaves last s
+    by [] n e = subst (λ (ks : List Kept). StandsForLeaves ks s) e l.stands
     by (new ∷ placed) n e = let no : [] ≡ told new ∷ map told placed = n.of_nodes in absurd cc

@@ -24,8 +24,8 @@ use Rattle.journal_scan.specs.declared.node_content.NodeContent.TheVariants.{Ino
 use Rattle.log_replay.specs.Changes.{place_of_node}
 use Rattle.log_replay.specs.Named.{in_named}
 use Rattle.log_replay.specs.Replay.{told_committed}
-use Rattle.log_replay.specs.Spared.{is_spared_by, spared_by, unspared}
-use Rattle.log_replay.specs.Standing.{leaf_at}
+use Rattle.log_replay.specs.Spared.{is_spared_by_map, spared_by, unspared}
+use Rattle.log_replay.specs.Standing.{leaf_of_key}
 use Rattle.log_replay.proofs.Noted.{number_at}
 
 -- ---- leaf by leaf
@@ -57,7 +57,7 @@ kept_on test xs all done next i h e n =
 -- ---- a node that is found
 module _ (named : List Named) (m : BTreeMap ℕ ℕ) (same : (leaf : Leaf) → in_named m leaf ≡ in_bud named leaf) (q : ℕ) where
   abbrev spares : Leaf → Placed → Bool
-  spares leaf p = is_spared_by m q (told_committed (record { leaf = leaf; found = Some p }))
+  spares leaf p = is_spared_by_map m q (told_committed (record { leaf = leaf; found = Some p }))
 
   abbrev is_linked : Leaf → Placed → Bool
   is_linked leaf p = is_linked_unknown named q (record { leaf = leaf; found = Some p })
@@ -69,20 +69,20 @@ module _ (named : List Named) (m : BTreeMap ℕ ℕ) (same : (leaf : Leaf) → i
   -- by what is told of an inode
   inode_spares : (leaf : Leaf) (p : Placed) (node : InoNode) (l : Bool) (k : Option Kind)
       → option_map_or (λ spared. is_at (nat_cmp spared) q) (spared_by m (record { leaf = leaf; found = Some (record (told p) { content = cond (is_some k) (Inode node.ino l) (Unknown (Ino node.ino) l) }) })) false
-      ≡ (((node.ino == q) && l) && (not (in_bud named leaf) && (not (is_shown (option_map (λ kind. SetInode node.ino (inode_of node kind)) k)) && same_leaf leaf (leaf_at (Ino node.ino) (place_of_node (told p))))))
+      ≡ (((node.ino == q) && l) && (not (in_bud named leaf) && (not (is_shown (option_map (λ kind. SetInode node.ino (inode_of node kind)) k)) && same_leaf leaf (leaf_of_key (Ino node.ino) (place_of_node (told p))))))
   inode_spares leaf p node l (Some kind) = sym (by (in_bud named leaf) ((node.ino == q) && l))
     where
       by : (b c : Bool) → (c && (not b && false)) ≡ false
       by true c = never c
       by false c = never c
-  inode_spares leaf p node false None = sym (by (node.ino == q) (not (in_bud named leaf) && same_leaf leaf (leaf_at (Ino node.ino) (place_of_node (told p)))))
+  inode_spares leaf p node false None = sym (by (node.ino == q) (not (in_bud named leaf) && same_leaf leaf (leaf_of_key (Ino node.ino) (place_of_node (told p)))))
     where
       by : (b c : Bool) → ((b && false) && c) ≡ false
       by true c = refl
       by false c = refl
   inode_spares leaf p node true None =
-      ap (λ (b : Bool). option_map_or (λ spared. is_at (nat_cmp spared) q) (cond (not b && same_leaf leaf (leaf_at (Ino node.ino) (place_of_node (told p)))) (Some node.ino) None) false) (same leaf)
-      ∙ by (not (in_bud named leaf)) (same_leaf leaf (leaf_at (Ino node.ino) (place_of_node (told p))))
+      ap (λ (b : Bool). option_map_or (λ spared. is_at (nat_cmp spared) q) (cond (not b && same_leaf leaf (leaf_of_key (Ino node.ino) (place_of_node (told p)))) (Some node.ino) None) false) (same leaf)
+      ∙ by (not (in_bud named leaf)) (same_leaf leaf (leaf_of_key (Ino node.ino) (place_of_node (told p))))
     where
       out : (b : Bool) → b ≡ ((b && true) && true)
       out true = refl
@@ -108,18 +108,18 @@ module _ (named : List Named) (m : BTreeMap ℕ ℕ) (same : (leaf : Leaf) → i
   at leaf p (entry node) e = rw e (entry_spares leaf (record p { node = entry node }) node node.attribute (not (node.inum == 0)))
   at leaf p (truncation node) e = rw e refl
 
-  spared_is : (c : Committed) → is_spared_by m q (told_committed c) ≡ is_linked_unknown named q c
+  spared_is : (c : Committed) → is_spared_by_map m q (told_committed c) ≡ is_linked_unknown named q c
   spared_is c = by c.found
     where
-      by : (found : Option Placed) → is_spared_by m q (told_committed (record { leaf = c.leaf; found = found })) ≡ is_linked_unknown named q (record { leaf = c.leaf; found = found })
+      by : (found : Option Placed) → is_spared_by_map m q (told_committed (record { leaf = c.leaf; found = found })) ≡ is_linked_unknown named q (record { leaf = c.leaf; found = found })
       by None = refl
       by (Some p) = at c.leaf p p.node refl
 
-  pub any_spared : (cs : List Committed) → list_any (is_linked_unknown named q) cs ≡ list_any (is_spared_by m q) (map told_committed cs)
+  pub any_spared : (cs : List Committed) → list_any (is_linked_unknown named q) cs ≡ list_any (is_spared_by_map m q) (map told_committed cs)
   any_spared [] = refl
   any_spared (c ∷ cs) = rw (spared_is c, any_spared cs) refl
 
 -- ---- the list
 pub left_told : (parts : Parts) (m : BTreeMap ℕ ℕ) → ((leaf : Leaf) → in_named m leaf ≡ in_bud parts.named leaf) → listed_left parts ≡ unspared m (map told_committed parts.committed) parts.listed
 left_told parts m same =
-    filter_agree (λ ino. not (list_any (is_linked_unknown parts.named ino) parts.committed)) (λ ino. not (list_any (is_spared_by m ino) (map told_committed parts.committed))) (λ ino. ap not (any_spared parts.named m same ino parts.committed)) parts.listed
+    filter_agree (λ ino. not (list_any (is_linked_unknown parts.named ino) parts.committed)) (λ ino. not (list_any (is_spared_by_map m ino) (map told_committed parts.committed))) (λ ino. ap not (any_spared parts.named m same ino parts.committed)) parts.listed

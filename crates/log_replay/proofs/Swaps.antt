@@ -10,7 +10,7 @@ use Rattle.index_tree.specs.Order.{key_rank}
 use Rattle.index_tree.specs.Removal.{same_leaf}
 use Rattle.index_tree.specs.Replacement.{swapped}
 use Rattle.log_replay.specs.Placing.{is_key, moved_to}
-use Rattle.log_replay.specs.Standing.{leaf_at}
+use Rattle.log_replay.specs.Standing.{leaf_of_key}
 use Rattle.log_replay.specs.declared.application.Place.{Place}
 use Rattle.log_replay.proofs.Owning.{is_one}
 
@@ -51,9 +51,9 @@ swapped_itself leaf (x ∷ xs) k h = by (same_leaf x leaf) refl (swapped_itself 
     by true e more = ap (λ z. z ∷ xs) (one_leaf x leaf (All-head HasKey x xs h) k e)
     by false e more = ap (λ z. x ∷ z) more
 
-pub moved_itself : (place : Place) (leaf : Leaf) (xs : List Leaf) → leaf_at leaf.key place ≡ leaf → (is_key leaf.key ≡ true → IsKey leaf.key) → HaveKeys xs → xs ≡ moved_to place leaf xs
+pub moved_itself : (place : Place) (leaf : Leaf) (xs : List Leaf) → leaf_of_key leaf.key place ≡ leaf → (is_key leaf.key ≡ true → IsKey leaf.key) → HaveKeys xs → xs ≡ moved_to place leaf xs
 moved_itself place leaf xs e fits h = by (is_key leaf.key) refl
   where
-    by : (b : Bool) → is_key leaf.key ≡ b → xs ≡ cond b (swapped leaf (leaf_at leaf.key place) xs) xs
+    by : (b : Bool) → is_key leaf.key ≡ b → xs ≡ cond b (swapped leaf (leaf_of_key leaf.key place) xs) xs
     by true k = sym (ap (λ (new : Leaf). swapped leaf new xs) e ∙ swapped_itself leaf xs (fits k) h)
     by false k = refl

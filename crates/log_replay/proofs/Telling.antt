@@ -8,7 +8,7 @@ use Rattle.leaf_map.specs.Kept.{Placed, kept_at, node_key, shown}
 use Rattle.leaf_map.specs.KeyedLaws.{node_keyed}
 use Rattle.leaf_map.specs.LeafMap.{HasKeyOf, shows_same}
 use Rattle.leaf_map.specs.Parts.{is_shown}
-use Rattle.journal_scan.specs.Content.{content_of}
+use Rattle.journal_scan.specs.Content.{node_content_of}
 use Rattle.journal_scan.specs.declared.node_content.NodeContent.{NodeContent}
 use Rattle.journal_scan.specs.declared.node_content.NodeContent.TheVariants.{Inode, Block, Entry, Truncation, Unknown}
 use Rattle.log_replay.specs.KeyToldLaws.{if_set, told_key}
@@ -16,7 +16,7 @@ use Rattle.log_replay.specs.Things.{is_same_told, key_told}
 use Rattle.log_replay.specs.Told.{IsSetting}
 use Rattle.log_replay.proofs.Noted.{content_block, content_entry, content_inode}
 
-pub set_key : (node : LeafNode) → IsSetting node → key_told (content_of node) ≡ Some (node_key node)
+pub set_key : (node : LeafNode) → IsSetting node → key_told (node_content_of node) ≡ Some (node_key node)
 set_key node is = told_key node is.leaf ∙ ap (λ b. if_set b (node_key node)) is.shown
 
 -- what sets nothing is the same as nothing
@@ -57,15 +57,15 @@ unshown_same (SetEntry e) (Some t) s h = refl
 unshown_same c t s h = absurd (false≢true s)
 
 -- whether two nodes set the same inode, block or name is told
-pub told_same : (a b : LeafNode) → is_shown (shown a) ≡ true → IsLeaf b → is_same_told (content_of a) (content_of b) ≡ shows_same (shown a) (shown b)
+pub told_same : (a b : LeafNode) → is_shown (shown a) ≡ true → IsLeaf b → is_same_told (node_content_of a) (node_content_of b) ≡ shows_same (shown a) (shown b)
 told_same a b set leaf = first (shown a) refl set
   where
-    other : (c : Change) → shown a ≡ Some c → is_shown (Some c) ≡ true → is_shown (shown b) ≡ false → is_same_told (content_of a) (content_of b) ≡ shows_same (shown a) (shown b)
+    other : (c : Change) → shown a ≡ Some c → is_shown (Some c) ≡ true → is_shown (shown b) ≡ false → is_same_told (node_content_of a) (node_content_of b) ≡ shows_same (shown a) (shown b)
     other c e s h =
-        none_same (content_of a) (content_of b) (told_key b leaf ∙ ap (λ z. if_set z (node_key b)) h)
+        none_same (node_content_of a) (node_content_of b) (told_key b leaf ∙ ap (λ z. if_set z (node_key b)) h)
         ∙ sym (ap (λ z. shows_same z (shown b)) e ∙ unshown_same c (shown b) s h)
 
-    second : (c : Change) → shown a ≡ Some c → is_shown (Some c) ≡ true → (t : Option Change) → shown b ≡ t → is_same_told (content_of a) (content_of b) ≡ shows_same (shown a) (shown b)
+    second : (c : Change) → shown a ≡ Some c → is_shown (Some c) ≡ true → (t : Option Change) → shown b ≡ t → is_same_told (node_content_of a) (node_content_of b) ≡ shows_same (shown a) (shown b)
     second (SetInode i x) e s (Some (SetInode j y)) f = rw (content_inode a i x e, content_inode b j y f, e, f) refl
     second (SetInode i x) e s (Some (SetBlock j n y)) f = rw (content_inode a i x e, content_block b j n y f, e, f) refl
     second (SetInode i x) e s (Some (SetEntry q)) f = rw (content_inode a i x e, content_entry b q f, e, f) refl
@@ -83,7 +83,7 @@ told_same a b set leaf = first (shown a) refl set
     second (CutBlocks ino old new) e s t f = absurd (false≢true s)
     second (DropInode ino) e s t f = absurd (false≢true s)
 
-    first : (s : Option Change) → shown a ≡ s → is_shown s ≡ true → is_same_told (content_of a) (content_of b) ≡ shows_same (shown a) (shown b)
+    first : (s : Option Change) → shown a ≡ s → is_shown s ≡ true → is_same_told (node_content_of a) (node_content_of b) ≡ shows_same (shown a) (shown b)
     first None e h = absurd (false≢true h)
     first (Some c) e h = second c e h (shown b) refl
 

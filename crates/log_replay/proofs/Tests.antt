@@ -16,7 +16,7 @@ use Rattle.fs_model.specs.Path.{is_same_name}
 use Rattle.fs_laws.specs.Maps.{IsOrder}
 use Rattle.fs_laws.specs.Orders.{bytes_same, named, numbers}
 use Rattle.leaf_map.specs.After.{goes, is_inode}
-use Rattle.log_replay.specs.Standing.{is_entry, is_name}
+use Rattle.log_replay.specs.Standing.{is_entry, is_name_shown}
 
 -- ---- keys of a map
 -- a key that is found is the one that is sought
@@ -54,7 +54,7 @@ text_is a b h = by (slice_cmp nat_cmp a b) refl h
     by Equal e t = ap (λ (k : ℕ × List ℕ). k.1) (named.exact (0, a) (0, b) e)
     by Greater e t = absurd (false≢true t)
 
-pub name_is : (q : ℕ × List ℕ) (e : Entry) → is_name q (Some (SetEntry e)) ≡ true → key e ≡ q
+pub name_is : (q : ℕ × List ℕ) (e : Entry) → is_name_shown q (Some (SetEntry e)) ≡ true → key e ≡ q
 name_is q e h =
     let p = and_parts (e.dir == q.0) (is_same_name e.name q.1) h in
     ap (λ (n : ℕ). make n e.name) (eqb-true e.dir q.0 p.0) ∙ ap (make q.0) (text_is e.name q.1 p.1)
@@ -62,18 +62,18 @@ name_is q e h =
     make : ℕ → List ℕ → ℕ × List ℕ
     make n name = (n, name)
 
-pub name_here : (q : ℕ × List ℕ) (e : Entry) → key e ≡ q → is_name q (Some (SetEntry e)) ≡ true
-name_here q e h = subst (λ (k : ℕ × List ℕ). is_name k (Some (SetEntry e)) ≡ true) h (and_from (e.dir == e.dir) (is_same_name e.name e.name) (eq-eqb e.dir e.dir refl) (ap is_eq (bytes_same e.name)))
+pub name_here : (q : ℕ × List ℕ) (e : Entry) → key e ≡ q → is_name_shown q (Some (SetEntry e)) ≡ true
+name_here q e h = subst (λ (k : ℕ × List ℕ). is_name_shown k (Some (SetEntry e)) ≡ true) h (and_from (e.dir == e.dir) (is_same_name e.name e.name) (eq-eqb e.dir e.dir refl) (ap is_eq (bytes_same e.name)))
 
-pub name_other : (q : ℕ × List ℕ) (e : Entry) → (key e ≡ q → ⊥) → is_name q (Some (SetEntry e)) ≡ false
-name_other q e h = by (is_name q (Some (SetEntry e))) refl
+pub name_other : (q : ℕ × List ℕ) (e : Entry) → (key e ≡ q → ⊥) → is_name_shown q (Some (SetEntry e)) ≡ false
+name_other q e h = by (is_name_shown q (Some (SetEntry e))) refl
   where
-    by : (c : Bool) → is_name q (Some (SetEntry e)) ≡ c → c ≡ false
+    by : (c : Bool) → is_name_shown q (Some (SetEntry e)) ≡ c → c ≡ false
     by true f = absurd (h (name_is q e f))
     by false f = refl
 
 -- ---- what goes
-pub no_name : (q : ℕ × List ℕ) (s : Option Change) → is_entry s ≡ false → is_name q s ≡ false
+pub no_name : (q : ℕ × List ℕ) (s : Option Change) → is_entry s ≡ false → is_name_shown q s ≡ false
 no_name q (Some (SetEntry e)) h = absurd (false≢true (sym h))
 no_name q s h = refl
 
@@ -133,11 +133,11 @@ all_stay ino (Some (SetInode other old)) t = t
 all_stay ino s t = refl
 
 -- a name that goes is the one of its key
-pub entry_is : (e : Entry) (s : Option Change) → goes (SetEntry e) s ≡ is_name (key e) s
+pub entry_is : (e : Entry) (s : Option Change) → goes (SetEntry e) s ≡ is_name_shown (key e) s
 entry_is e (Some (SetEntry old)) = refl
 entry_is e s = refl
 
-pub entry_other : (p q : ℕ × List ℕ) → (p ≡ q → ⊥) → (s : Option Change) → is_name p s ≡ true → is_name q s ≡ false
+pub entry_other : (p q : ℕ × List ℕ) → (p ≡ q → ⊥) → (s : Option Change) → is_name_shown p s ≡ true → is_name_shown q s ≡ false
 entry_other p q h (Some (SetEntry old)) t = name_other q old (λ e. h (sym (name_is p old t) ∙ e))
 entry_other p q h s t = absurd (false≢true t)
 

@@ -21,11 +21,11 @@ use Rattle.journal_scan.specs.declared.node_content.NodeContent.TheVariants.{Ino
 use Rattle.journal_scan.specs.declared.journal_node.JournalNode.{JournalNode}
 use Rattle.log_replay.specs.declared.application.Place.{Place}
 use Rattle.log_replay.specs.declared.standing.Standing.{Standing}
-use Rattle.log_replay.specs.Standing.{leaf_at, leaves_in}
+use Rattle.log_replay.specs.Standing.{leaf_of_key, leaves_in}
 
 -- the first leaf of a key
-abbrev pub first_of : Key → List Leaf → Option Leaf
-first_of key xs = slice_get (of_rank (key_rank key) xs) 0
+abbrev pub first_of_key : Key → List Leaf → Option Leaf
+first_of_key key xs = slice_get (of_rank (key_rank key) xs) 0
 
 -- a leaf in the place of an old one, if there is one, and else behind all of no greater key
 abbrev pub put_over : Option Leaf → Leaf → List Leaf → List Leaf
@@ -48,29 +48,29 @@ pub record IsHeavier (n : ℕ) (s t : Standing) : Type 0 where
   pub weight : shape_weight s.index.fanout (shape t.index.root) ≤ shape_weight s.index.fanout (shape s.index.root) + n
 
 -- an inode with links is set
-pub record SetsInode (ino : ℕ) (leaf : Leaf) (s t : Standing) : Type 0 where
-  pub leaves : IsOfKey leaf.key (first_of leaf.key (leaves_in s)) → leaves_in t ≡ put_over (first_of leaf.key (leaves_in s)) leaf (leaves_in s)
+pub record StandingSetsInode (ino : ℕ) (leaf : Leaf) (s t : Standing) : Type 0 where
+  pub leaves : IsOfKey leaf.key (first_of_key leaf.key (leaves_in s)) → leaves_in t ≡ put_over (first_of_key leaf.key (leaves_in s)) leaf (leaves_in s)
   pub inodes : (q : ℕ) → get nat_cmp t.inodes q ≡ cond (is_at (nat_cmp ino) q) (Some true) (get nat_cmp s.inodes q)
   pub names : t.names ≡ s.names
 
 -- an inode goes with its blocks
-pub record DropsInode (ino : ℕ) (s t : Standing) : Type 0 where
+pub record StandingDropsInode (ino : ℕ) (s t : Standing) : Type 0 where
   pub leaves : leaves_in t ≡ outside_range (key_rank (Ino ino)) (key_rank (last_block_key ino)) (leaves_in s)
   pub inodes : (q : ℕ) → get nat_cmp t.inodes q ≡ cond (is_at (nat_cmp ino) q) None (get nat_cmp s.inodes q)
   pub names : t.names ≡ s.names
 
 -- a block is set
 pub record PutsBlock (leaf : Leaf) (s t : Standing) : Type 0 where
-  pub leaves : IsOfKey leaf.key (first_of leaf.key (leaves_in s)) → leaves_in t ≡ put_over (first_of leaf.key (leaves_in s)) leaf (leaves_in s)
+  pub leaves : IsOfKey leaf.key (first_of_key leaf.key (leaves_in s)) → leaves_in t ≡ put_over (first_of_key leaf.key (leaves_in s)) leaf (leaves_in s)
   pub inodes : t.inodes ≡ s.inodes
   pub names : t.names ≡ s.names
 
 -- a block is set if its inode is there
-abbrev pub SetsBlock : ℕ → Leaf → Standing → Standing → Type 0
-SetsBlock ino leaf s t = MatchOption (get nat_cmp s.inodes ino) (t ≡ s) (λ linked. PutsBlock leaf s t)
+abbrev pub StandingSetsBlock : ℕ → Leaf → Standing → Standing → Type 0
+StandingSetsBlock ino leaf s t = MatchOption (get nat_cmp s.inodes ino) (t ≡ s) (λ linked. PutsBlock leaf s t)
 
 -- the blocks of an inode go that have no byte below a size
-pub record CutsBlocks (ino size : ℕ) (s t : Standing) : Type 0 where
+pub record StandingCutsBlocks (ino size : ℕ) (s t : Standing) : Type 0 where
   pub leaves : leaves_in t ≡ outside_range (key_rank (Block ino (min ((size + 4095) / 4096) (2 ^ 29)))) (key_rank (last_block_key ino)) (leaves_in s)
   pub inodes : t.inodes ≡ s.inodes
   pub names : t.names ≡ s.names
@@ -88,14 +88,14 @@ pub record DropsName (q : ℕ × List ℕ) (s t : Standing) : Type 0 where
   pub names : (p : ℕ × List ℕ) → get name_cmp t.names p ≡ cond (is_at (name_cmp q) p) None (get name_cmp s.names p)
 
 -- whether an inode is there and has no links
-abbrev pub is_bare : Option Bool → Bool
-is_bare None = false
-is_bare (Some linked) = not linked
+abbrev pub is_without_links : Option Bool → Bool
+is_without_links None = false
+is_without_links (Some linked) = not linked
 
 -- an inode goes with its blocks if it has no links
 pub record DropsOrphan (ino : ℕ) (s t : Standing) : Type 0 where
-  pub bare : is_bare (get nat_cmp s.inodes ino) ≡ true → DropsInode ino s t
-  pub other : is_bare (get nat_cmp s.inodes ino) ≡ false → t ≡ s
+  pub bare : is_without_links (get nat_cmp s.inodes ino) ≡ true → StandingDropsInode ino s t
+  pub other : is_without_links (get nat_cmp s.inodes ino) ≡ false → t ≡ s
 
 -- the place of a node
 abbrev pub place_of_node : JournalNode → Place
@@ -103,14 +103,14 @@ place_of_node node = record { lnum = node.lnum; offs = node.offs; len = node.len
 
 -- what a node of this content makes of them
 abbrev pub DoesBy : NodeContent → Place → Standing → Standing → Type 0
-DoesBy (Inode ino true) place s t = SetsInode ino (leaf_at (Ino ino) place) s t
-DoesBy (Inode ino false) place s t = DropsInode ino s t
-DoesBy (BlockNode ino number) place s t = SetsBlock ino (leaf_at (Block ino number) place) s t
-DoesBy (Entry dir name true) place s t = SetsName (dir, name) (leaf_at (Dent dir (r5_of name)) place) s t
+DoesBy (Inode ino true) place s t = StandingSetsInode ino (leaf_of_key (Ino ino) place) s t
+DoesBy (Inode ino false) place s t = StandingDropsInode ino s t
+DoesBy (BlockNode ino number) place s t = StandingSetsBlock ino (leaf_of_key (Block ino number) place) s t
+DoesBy (Entry dir name true) place s t = SetsName (dir, name) (leaf_of_key (Dent dir (r5_of name)) place) s t
 DoesBy (Entry dir name false) place s t = DropsName (dir, name) s t
-DoesBy (Truncation ino size) place s t = CutsBlocks ino size s t
+DoesBy (Truncation ino size) place s t = StandingCutsBlocks ino size s t
 DoesBy (Unknown key true) place s t = t ≡ s
-DoesBy (Unknown key false) place s t = DropsInode (key_words key).0 s t
+DoesBy (Unknown key false) place s t = StandingDropsInode (key_words key).0 s t
 
 -- what a node makes of them
 abbrev pub Does : JournalNode → Standing → Standing → Type 0

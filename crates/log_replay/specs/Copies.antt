@@ -35,18 +35,18 @@ is_of_rank r node = by (key_told node.content)
     by (Some key) = is_at (nat_cmp (key_rank key)) r
 
 -- a node behind others, if it stands there
-abbrev pub behind : Bool → JournalNode → List JournalNode → List JournalNode
-behind true node nodes = nodes ++ node ∷ []
-behind false node nodes = nodes
+abbrev pub journal_node_behind : Bool → JournalNode → List JournalNode → List JournalNode
+journal_node_behind true node nodes = nodes ++ node ∷ []
+journal_node_behind false node nodes = nodes
 
 -- the nodes that make another leaf than what is told so
-abbrev pub others : NodeContent → List JournalNode → List JournalNode
-others content nodes = filter (λ c. not (is_same_told content c.content)) nodes
+abbrev pub other_leaf_nodes : NodeContent → List JournalNode → List JournalNode
+other_leaf_nodes content nodes = filter (λ c. not (is_same_told content c.content)) nodes
 
 -- what is left of nodes without the first and those that make the same leaf
 abbrev pub first_taken : List JournalNode → List JournalNode
 first_taken [] = []
-first_taken (first ∷ nodes) = others first.content nodes
+first_taken (first ∷ nodes) = other_leaf_nodes first.content nodes
 
 -- the place of the first of some copies that has a node's number and makes the same leaf
 abbrev pub copy_place : JournalNode → List JournalNode → Option Place

@@ -14,7 +14,7 @@ use Rattle.fs_model.specs.declared.inode.Kind.{Kind}
 use Rattle.group_nodes.specs.Nodes.{bits_of, inode_of, kind_of_bits, kind_of_type}
 use Rattle.leaf_map.specs.Kept.{node_key, shown}
 use Rattle.leaf_map.specs.Parts.{is_shown}
-use Rattle.journal_scan.specs.Content.{content_of}
+use Rattle.journal_scan.specs.Content.{node_content_of}
 use Rattle.journal_scan.specs.declared.node_content.NodeContent.TheVariants.{Inode, Entry, Unknown}
 use Rattle.log_replay.specs.Things.{key_told}
 
@@ -47,7 +47,7 @@ entry_key node false false None h = absurd (false≢true h)
 entry_key node false false (Some kind) h = refl
 
 -- a node's key is told if it sets something
-pub told_key : (node : LeafNode) → IsLeaf node → key_told (content_of node) ≡ if_set (is_shown (shown node)) (node_key node)
+pub told_key : (node : LeafNode) → IsLeaf node → key_told (node_content_of node) ≡ if_set (is_shown (shown node)) (node_key node)
 told_key (inode node) leaf = inode_key node (not (node.nlink == 0)) (kind_of_bits (bits_of node.mode))
 told_key (block node) leaf = refl
 told_key (entry node) leaf = entry_key node node.attribute (node.inum == 0) (kind_of_type node.kind) (known node.kind leaf.kind_known)

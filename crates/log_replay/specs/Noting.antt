@@ -13,12 +13,12 @@ use Rattle.journal_scan.specs.declared.journal_node.JournalNode.{JournalNode}
 use Rattle.log_replay.specs.Changes.{place_of_node}
 use Rattle.log_replay.specs.declared.application.Place.{Place}
 use Rattle.log_replay.specs.declared.standing.Standing.{Standing}
-use Rattle.log_replay.specs.Standing.{leaf_at, links_of, place_of}
+use Rattle.log_replay.specs.Standing.{leaf_of_key, links_among, leaf_of_name}
 
 -- the maps say what these leaves show
 pub record Says (kept : List Kept) (s : Standing) : Type 0 where
-  pub inodes : (ino : ℕ) → get nat_cmp s.inodes ino ≡ links_of kept ino
-  pub names : (q : ℕ × List ℕ) → get name_cmp s.names q ≡ place_of kept q
+  pub inodes : (ino : ℕ) → get nat_cmp s.inodes ino ≡ links_among kept ino
+  pub names : (q : ℕ × List ℕ) → get name_cmp s.names q ≡ leaf_of_name kept q
 
 -- of an inode it is kept whether it has links
 pub record NotesInode (ino : ℕ) (linked : Bool) (s t : Standing) : Type 0 where
@@ -33,7 +33,7 @@ pub record NotesName (q : ℕ × List ℕ) (leaf : Leaf) (s t : Standing) : Type
 -- what is kept of a leaf of this content
 abbrev pub NotesBy : NodeContent → Place → Standing → Standing → Type 0
 NotesBy (Inode ino linked) place s t = NotesInode ino linked s t
-NotesBy (Entry dir name true) place s t = NotesName (dir, name) (leaf_at (Dent dir (r5_of name)) place) s t
+NotesBy (Entry dir name true) place s t = NotesName (dir, name) (leaf_of_key (Dent dir (r5_of name)) place) s t
 NotesBy (Entry dir name false) place s t = t ≡ s
 NotesBy (Block ino number) place s t = t ≡ s
 NotesBy (Truncation ino size) place s t = t ≡ s

@@ -16,7 +16,7 @@ use Rattle.log_replay.specs.declared.read_leaf.ReadLeaf.{ReadLeaf}
 use Rattle.log_replay.specs.declared.standing.Standing.{Standing}
 use Rattle.log_replay.specs.Changes.{place_of_node}
 use Rattle.log_replay.specs.Noting.{Notes, Says}
-use Rattle.log_replay.specs.Standing.{leaf_at, leaves, leaves_in}
+use Rattle.log_replay.specs.Standing.{leaf_of_key, leaves, leaves_in}
 use Rattle.log_replay.specs.Told.{told_leaf}
 
 -- whether the parts of a key fit
@@ -28,7 +28,7 @@ is_key (Xent ino hash) = nat_lt hash (2 ^ 29)
 
 -- leaves with one of them at another place
 abbrev pub moved_to : Place → Leaf → List Leaf → List Leaf
-moved_to place leaf xs = if is_key leaf.key then swapped leaf (leaf_at leaf.key place) xs else xs
+moved_to place leaf xs = if is_key leaf.key then swapped leaf (leaf_of_key leaf.key place) xs else xs
 
 -- a committed leaf, and as what it was found, if it was
 pub record LeafFound : Type 0 where
@@ -36,22 +36,22 @@ pub record LeafFound : Type 0 where
   pub kept : Option Kept
 
 -- the leaves that were found
-abbrev pub present : List LeafFound → List Kept
-present [] = []
-present (f ∷ found) = with_kept f.kept (present found)
+abbrev pub present_leaves : List LeafFound → List Kept
+present_leaves [] = []
+present_leaves (f ∷ found) = with_kept f.kept (present_leaves found)
   where
     with_kept : Option Kept → List Kept → List Kept
     with_kept None kept = kept
     with_kept (Some x) kept = x ∷ kept
 
 -- a leaf that was found has the key of what it shows, which is that of the committed leaf
-pub record IsSound (leaf : Leaf) (x : Kept) : Type 0 where
+pub record IsLeafSound (leaf : Leaf) (x : Kept) : Type 0 where
   pub keyed : IsKeyed x
   pub key : x.leaf.key ≡ leaf.key
   pub is_key : is_key leaf.key ≡ true
 
 abbrev pub IsFoundWell : LeafFound → Type 0
-IsFoundWell f = MatchOption f.kept (Unit {0}) (IsSound f.leaf)
+IsFoundWell f = MatchOption f.kept (Unit {0}) (IsLeafSound f.leaf)
 
 -- what is told of leaves
 abbrev pub pair_told : ReadLeaf → Leaf × Option JournalNode
@@ -70,8 +70,8 @@ pub record AreSettled (found : List LeafFound) (s : Standing) (settled : List Re
 
 -- The index has the leaves that were found, and the maps say what they show.
 pub record ArePlaced (found : List LeafFound) (s : Standing) : Type 0 where
-  pub in_index : leaves_in s ≡ leaves (present found)
-  pub says : Says (present found) s
+  pub in_index : leaves_in s ≡ leaves (present_leaves found)
+  pub says : Says (present_leaves found) s
 
 -- a leaf without a node goes, and one with a node goes where it stands, and what it shows is kept
 abbrev pub Places : ReadLeaf → Standing → Standing → Type 0

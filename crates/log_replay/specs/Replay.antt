@@ -9,9 +9,9 @@ use Rattle.index_tree.specs.Shape.{contents}
 use Rattle.index_tree.specs.Tree.{shape}
 use Rattle.leaf_map.specs.Kept.{node_key}
 use Rattle.leaf_map.specs.Parts.{Committed, Named, Parts, in_bud, is_named}
-use Rattle.leaf_map.specs.Recovered.{highest_key, in_order, leaves_found, listed_left, recovered_of, spare_copies}
+use Rattle.leaf_map.specs.Recovered.{highest_key, nodes_in_order, leaves_found, listed_left, recovered_of, spare_copies}
 use Rattle.journal_scan.specs.Content.{told}
-use Rattle.journal_scan.specs.Journal.{BudRead, IsBudRead, copies_in, greatest_in, nodes_in}
+use Rattle.journal_scan.specs.Journal.{BudRead, IsBudRead, copies_in, greatest_in, journal_nodes_in}
 use Rattle.journal_scan.specs.Places.{named_by}
 use Rattle.journal_scan.specs.declared.bud_text.BudText.{BudText}
 use Rattle.journal_scan.specs.declared.journal_node.JournalNode.{JournalNode}
@@ -39,7 +39,7 @@ pub record AreParts (parts : Parts) (reads : List BudRead) (index : Index) (comm
   pub told : committed ≡ map told_committed parts.committed
   pub grammar : AllByRecursion HasGrammar parts.committed
   pub named : NameTheSame parts.named (map (λ x. named_by x.bud) reads)
-  pub nodes : parts.nodes ≡ nodes_in reads
+  pub nodes : parts.nodes ≡ journal_nodes_in reads
   pub copies : parts.copies ≡ copies_in reads
   pub list : parts.listed ≡ listed
   pub journal : IsOfJournal parts
@@ -60,7 +60,7 @@ pub record AreFound (parts : Parts) (reads : List ReadLeaf) (outer : List Candid
 -- These parts are what was read of an index, of nodes in order of number, and of the listed inodes that may go.
 pub record CanRecover (parts : Parts) (index : Index) (applied : List JournalNode) (listed : List ℕ) : Type 0 where
   pub in_index : contents (shape index.root) ≡ map (λ c. c.leaf) parts.committed
-  pub nodes : applied ≡ map told (in_order parts.nodes)
+  pub nodes : applied ≡ map told (nodes_in_order parts.nodes)
   pub list : listed_left parts ≡ listed
   pub journal : IsOfJournal parts
 
@@ -70,7 +70,7 @@ highest_of committed = fold (λ n x. max n (key_words x.leaf.key).0) 0 committed
 
 -- the greatest inode number in the keys of leaves and of the nodes that were read, or 0
 abbrev pub highest_read : List CommittedLeaf → List BudRead → ℕ
-highest_read committed reads = highest_key (highest_of committed) (map (λ x. node_key x.node) (in_order (nodes_in reads)))
+highest_read committed reads = highest_key (highest_of committed) (map (λ x. node_key x.node) (nodes_in_order (journal_nodes_in reads)))
 
 -- What is recovered of an index, its leaves, the LEBs that the log names, and the list: of the parts that say what was read the recovered leaves; of what was read the highest number of keys, how many nodes were applied, the greatest sequence number, and the tails.
 pub record IsReplayed (index : Index) (committed : List CommittedLeaf) (buds : List BudText) (listed : List ℕ) (made : Replayed) : Type 0 where
@@ -78,7 +78,7 @@ pub record IsReplayed (index : Index) (committed : List CommittedLeaf) (buds : L
   pub of_buds : map (λ x. x.bud) reads ≡ buds
   pub texts : AllByRecursion IsBudRead reads
   pub recovered : (parts : Parts) → AreParts parts reads index committed listed → contents (shape made.index.root) ≡ leaves (recovered_of parts).kept
-  pub nodes : made.nodes ≡ length (nodes_in reads)
+  pub nodes : made.nodes ≡ length (journal_nodes_in reads)
   pub highest : made.highest ≡ highest_read committed reads
   pub sqnum : made.sqnum ≡ greatest_in 0 reads
   pub tails : made.tails.items ≡ map (λ x. x.tail) reads

@@ -9,12 +9,12 @@ use Rattle.index_tree.specs.declared.leaf.Leaf.{Leaf}
 use Rattle.index_tree.specs.Order.{leaf_rank}
 use Rattle.leaf_map.specs.Kept.{Kept, Placed, kept_at}
 use Rattle.leaf_map.specs.Parts.{Committed, Parts, own_node}
-use Rattle.leaf_map.specs.Recovered.{copies_left, copy_of, copy_of_key, is_original, stand_in}
+use Rattle.leaf_map.specs.Recovered.{copies_left, copy_of_leaf, copy_of_key, is_original, stand_in}
 use Rattle.journal_scan.specs.Content.{told}
 use Rattle.journal_scan.specs.declared.journal_node.JournalNode.{JournalNode}
 use Rattle.log_replay.specs.declared.application.Place.{Place}
 use Rattle.log_replay.specs.declared.read_leaf.ReadLeaf.{ReadLeaf}
-use Rattle.log_replay.specs.Copies.{at_rank, first_taken, others, Ranked}
+use Rattle.log_replay.specs.Copies.{at_rank, first_taken, other_leaf_nodes, Ranked}
 use Rattle.log_replay.specs.Told.{IsSetting, told_leaf}
 
 -- What stands at a leaf's place is a node of the grammar, if anything does.
@@ -28,12 +28,12 @@ pub record CanSettle (parts : Parts) (committed : List Committed) (left : List P
   pub copies_left : AllByRecursion (λ c. IsSetting c.node) left
 
 -- the copies of one place in the order
-abbrev pub of_rank : ℕ → List Placed → List Placed
-of_rank r copies = filter (λ c. is_at (nat_cmp (leaf_rank (kept_at c).leaf)) r) copies
+abbrev pub copies_of_rank : ℕ → List Placed → List Placed
+copies_of_rank r copies = filter (λ c. is_at (nat_cmp (leaf_rank (kept_at c).leaf)) r) copies
 
 -- by the place of their keys in the order these copies are told
 abbrev pub HasCopies : List Placed → Ranked → Type 0
-HasCopies copies ranked = (r : ℕ) → at_rank ranked r ≡ map told (of_rank r copies)
+HasCopies copies ranked = (r : ℕ) → at_rank ranked r ≡ map told (copies_of_rank r copies)
 
 -- what is found of a leaf before any goes to its copy
 abbrev pub kept_of : Committed → Option Placed → Option Kept
@@ -42,7 +42,7 @@ kept_of c (Some own) = Some (record { leaf = c.leaf; sqnum = own.sqnum; node = o
 
 -- where a copy of a leaf's node stands
 abbrev pub copy_at : List Placed → Kept → Option Place
-copy_at copies x = option_map (λ c. record { lnum = c.lnum; offs = c.offs; len = c.len }) (copy_of copies x)
+copy_at copies x = option_map (λ c. record { lnum = c.lnum; offs = c.offs; len = c.len }) (copy_of_leaf copies x)
 
 -- a leaf that is read so
 abbrev pub read_as : Parts → Leaf → Bool → Option Kept → ReadLeaf
@@ -50,8 +50,8 @@ read_as parts leaf own None = record { leaf = leaf; is_own = own; node = None; c
 read_as parts leaf own (Some x) = record { leaf = leaf; is_own = own; node = Some (told_leaf x); copy = copy_at parts.copies x }
 
 -- a leaf as it is read
-abbrev pub read_of : Parts → Committed → ReadLeaf
-read_of parts c = read_as parts c.leaf (is_some (own_node parts.named c)) (kept_of c (own_node parts.named c))
+abbrev pub leaf_read_of : Parts → Committed → ReadLeaf
+leaf_read_of parts c = read_as parts c.leaf (is_some (own_node parts.named c)) (kept_of c (own_node parts.named c))
 
 -- the copies of what own nodes of none of these leaves show
 abbrev pub spare_of : Parts → List Committed → List Placed → List Placed
@@ -59,11 +59,11 @@ spare_of parts committed left = filter (λ c. not (list_any (is_original parts.n
 
 -- a leaf without a node of its own, at its copy if one is left
 abbrev pub settled_at : Parts → Committed → Option Placed → ReadLeaf
-settled_at parts c None = read_of parts c
+settled_at parts c None = leaf_read_of parts c
 settled_at parts c (Some copy) = record { leaf = c.leaf; is_own = false; node = Some (told copy); copy = None }
 
 abbrev pub settled_one : Parts → List Placed → Committed → Option Placed → ReadLeaf
-settled_one parts left c (Some own) = read_of parts c
+settled_one parts left c (Some own) = leaf_read_of parts c
 settled_one parts left c None = settled_at parts c (copy_of_key c.leaf left)
 
 -- the leaves, where these copies are to be had
@@ -77,7 +77,7 @@ abbrev pub owned : ReadLeaf → List JournalNode → List JournalNode
 owned read copies = by read.is_own read.node
   where
     by : Bool → Option JournalNode → List JournalNode
-    by true (Some node) = others node.content copies
+    by true (Some node) = other_leaf_nodes node.content copies
     by own other = copies
 
 abbrev pub DropsOwned : ReadLeaf → Ranked → Ranked → Type 0
@@ -89,8 +89,8 @@ at_copy_told read None = read
 at_copy_told read (Some node) = record { leaf = read.leaf; is_own = false; node = Some node; copy = None }
 
 -- a leaf without a node of its own goes to the first copy of its key, which is taken
-abbrev pub Settles : ReadLeaf → ReadLeaf → Ranked → Ranked → Type 0
-Settles read settled old new = by read.is_own
+abbrev pub SettlesLeaf : ReadLeaf → ReadLeaf → Ranked → Ranked → Type 0
+SettlesLeaf read settled old new = by read.is_own
   where
     by : Bool → Type 0
     by true = (settled ≡ read) × (new ≡ old)

@@ -12,7 +12,7 @@ use Rattle.journal_scan.specs.declared.journal_node.JournalNode.{JournalNode}
 use Rattle.log_replay.specs.declared.committed_leaf.CommittedLeaf.{CommittedLeaf}
 use Rattle.log_replay.specs.Changes.{place_of_node}
 use Rattle.log_replay.specs.Named.{in_named}
-use Rattle.log_replay.specs.Standing.{leaf_at}
+use Rattle.log_replay.specs.Standing.{leaf_of_key}
 
 -- the inode that has links by a node of which this is told, but no known kind
 abbrev pub unknown_inode : NodeContent → Option ℕ
@@ -25,16 +25,16 @@ spared_by named x = by x.found
   where
     at : JournalNode → Option ℕ → Option ℕ
     at node None = None
-    at node (Some ino) = if not (in_named named x.leaf) && same_leaf x.leaf (leaf_at (Ino ino) (place_of_node node)) then Some ino else None
+    at node (Some ino) = if not (in_named named x.leaf) && same_leaf x.leaf (leaf_of_key (Ino ino) (place_of_node node)) then Some ino else None
 
     by : Option JournalNode → Option ℕ
     by None = None
     by (Some node) = at node (unknown_inode node.content)
 
 -- whether it is this inode
-abbrev pub is_spared_by : BTreeMap ℕ ℕ → ℕ → CommittedLeaf → Bool
-is_spared_by named ino x = option_map_or (λ spared. is_at (nat_cmp spared) ino) (spared_by named x) false
+abbrev pub is_spared_by_map : BTreeMap ℕ ℕ → ℕ → CommittedLeaf → Bool
+is_spared_by_map named ino x = option_map_or (λ spared. is_at (nat_cmp spared) ino) (spared_by named x) false
 
 -- the list without the inodes that are spared
 abbrev pub unspared : BTreeMap ℕ ℕ → List CommittedLeaf → List ℕ → List ℕ
-unspared named leaves listed = filter (λ ino. not (list_any (is_spared_by named ino) leaves)) listed
+unspared named leaves listed = filter (λ ino. not (list_any (is_spared_by_map named ino) leaves)) listed

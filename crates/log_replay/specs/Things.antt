@@ -10,7 +10,7 @@ use Rattle.journal_scan.specs.declared.node_content.NodeContent.{NodeContent}
 use Rattle.journal_scan.specs.declared.node_content.NodeContent.TheVariants.{Inode, Block, Entry, Truncation, Unknown}
 use Rattle.journal_scan.specs.declared.journal_node.JournalNode.{JournalNode}
 use Rattle.log_replay.specs.Changes.{place_of_node}
-use Rattle.log_replay.specs.Standing.{leaf_at}
+use Rattle.log_replay.specs.Standing.{leaf_of_key}
 
 -- the key of the leaf that a node makes, if it sets an inode, a block or a name
 abbrev pub key_told : NodeContent → Option Key
@@ -49,4 +49,4 @@ is_at_leaf leaf node = by (key_told node.content)
   where
     by : Option Key → Bool
     by None = false
-    by (Some key) = same_leaf leaf (leaf_at key (place_of_node node))
+    by (Some key) = same_leaf leaf (leaf_of_key key (place_of_node node))

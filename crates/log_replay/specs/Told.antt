@@ -9,15 +9,15 @@ use Rattle.index_tree.specs.Tree.{shape}
 use Rattle.leaf_map.specs.Kept.{Kept, Placed, shown}
 use Rattle.leaf_map.specs.LeafMap.{IsLeafMap}
 use Rattle.leaf_map.specs.Parts.{Parts, is_shown}
-use Rattle.leaf_map.specs.Recovered.{in_order, leaves_found, listed_left, without_orphan}
-use Rattle.journal_scan.specs.Content.{content_of, told}
+use Rattle.leaf_map.specs.Recovered.{nodes_in_order, leaves_found, listed_left, without_orphan}
+use Rattle.journal_scan.specs.Content.{node_content_of, told}
 use Rattle.journal_scan.specs.Places.{HavePlaces}
 use Rattle.journal_scan.specs.declared.journal_node.JournalNode.{JournalNode}
 use Rattle.log_replay.specs.Standing.{AreFresh, leaves, names_in}
 
 -- what is told of a leaf: what its node says, where it stands
 abbrev pub told_leaf : Kept → JournalNode
-told_leaf x = record { content = content_of x.node; sqnum = x.sqnum; lnum = x.leaf.lnum; offs = x.leaf.offs; len = x.leaf.len }
+told_leaf x = record { content = node_content_of x.node; sqnum = x.sqnum; lnum = x.leaf.lnum; offs = x.leaf.offs; len = x.leaf.len }
 
 -- An index has these leaves, which are those of an index, and of each this is told; no two names have one leaf.
 pub record AreLeavesOf (kept : List Kept) (index : Index) (found : List JournalNode) : Type 0 where
@@ -53,5 +53,5 @@ pub record IsToldBy (parts : Parts) (index : Index) (found nodes : List JournalN
   pub journal : IsOfJournal parts
   pub in_index : contents (shape index.root) ≡ leaves (leaves_found parts)
   pub of_leaves : found ≡ map told_leaf (leaves_found parts)
-  pub of_nodes : nodes ≡ map told (in_order parts.nodes)
+  pub of_nodes : nodes ≡ map told (nodes_in_order parts.nodes)
   pub of_list : listed ≡ listed_left parts

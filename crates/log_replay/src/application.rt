@@ -5,8 +5,8 @@ ghost use Rattle.std.specs.BTreeMap.{get, is_at};
 ghost use Rattle.ubifs_base.specs.R5.{r5_of};
 ghost use Rattle.ubifs_base.specs.declared.key.Key.TheVariants.{Block, Dent, Ino};
 ghost use Rattle.fs_model.specs.Files.{name_cmp};
-ghost use Rattle.log_replay.specs.Changes.{CutsBlocks, Does, DropsInode, DropsName, IsHeavier, SetsBlock, SetsInode, SetsName, HasBlockKey};
-ghost use Rattle.log_replay.specs.Standing.{leaf_at};
+ghost use Rattle.log_replay.specs.Changes.{StandingCutsBlocks, Does, StandingDropsInode, DropsName, IsHeavier, StandingSetsBlock, StandingSetsInode, SetsName, HasBlockKey};
+ghost use Rattle.log_replay.specs.Standing.{leaf_of_key};
 
 use crate::index_calls::{put, take};
 use crate::standing::Standing;
@@ -77,7 +77,7 @@ pub(crate) fn apply(alloc: Global, standing: &mut Standing, node: JournalNode) -
 
 // An inode with links stands at its node.
 fn set_inode(alloc: Global, standing: &mut Standing, ino: u32, place: Place) -> Result<(), Memory>
-    ensures does { OnOk result (SetsInode ino (leaf_at (Ino ino) place) standing.old standing.new) }
+    ensures does { OnOk result (StandingSetsInode ino (leaf_of_key (Ino ino) place) standing.old standing.new) }
     ensures weight { IsHeavier 1 standing.old standing.new }
 {
     let leaf = at_place(Key::Ino { ino }, place);
@@ -89,7 +89,7 @@ fn set_inode(alloc: Global, standing: &mut Standing, ino: u32, place: Place) -> 
 
 // A leaf of a key at a place.
 pub(crate) fn at_place(key: Key, place: Place) -> Leaf
-    ensures { result ≡ leaf_at key place }
+    ensures { result ≡ leaf_of_key key place }
 {
     Leaf {
         key,
@@ -101,7 +101,7 @@ pub(crate) fn at_place(key: Key, place: Place) -> Leaf
 
 // An inode goes with its blocks.
 pub(crate) fn drop_inode(standing: &mut Standing, ino: u32)
-    ensures does { DropsInode ino standing.old standing.new }
+    ensures does { StandingDropsInode ino standing.old standing.new }
     ensures weight { IsHeavier 0 standing.old standing.new }
 {
     standing
@@ -129,7 +129,7 @@ fn set_block(
     place: Place,
 ) -> Result<(), Memory>
     requires { block < 2 ^ 29 }
-    ensures does { OnOk result (SetsBlock ino (leaf_at (Block ino block) place) standing.old standing.new) }
+    ensures does { OnOk result (StandingSetsBlock ino (leaf_of_key (Block ino block) place) standing.old standing.new) }
     ensures weight { IsHeavier 1 standing.old standing.new }
 {
     if !standing.inodes.contains_key(&ino) {
@@ -142,7 +142,7 @@ fn set_block(
 
 // The blocks of an inode go that have no byte below a size.
 fn cut_blocks(standing: &mut Standing, ino: u32, size: u64)
-    ensures does { CutsBlocks ino size standing.old standing.new }
+    ensures does { StandingCutsBlocks ino size standing.old standing.new }
     ensures weight { IsHeavier 0 standing.old standing.new }
 {
     let first = Key::Block {
@@ -173,7 +173,7 @@ fn set_name(
     name: Name,
     place: Place,
 ) -> Result<(), Memory>
-    ensures does { OnOk result (SetsName (dir, name) (leaf_at (Dent dir (r5_of name)) place) standing.old standing.new) }
+    ensures does { OnOk result (SetsName (dir, name) (leaf_of_key (Dent dir (r5_of name)) place) standing.old standing.new) }
     ensures weight { IsHeavier 1 standing.old standing.new }
 {
     let hash = r5(name.as_slice());

@@ -3,7 +3,7 @@
 ghost use Rattle.std.specs.Prelude.{◌≡◌, ℕ, cond, filter, [], slice_get, IfOk, OnOk};
 ghost use Rattle.std.specs.BTreeMap.{is_at};
 ghost use Rattle.std.specs.Ordering.{nat_cmp};
-ghost use Rattle.log_replay.specs.Copies.{at_rank, behind, copy_place, first_taken, is_of_rank, others};
+ghost use Rattle.log_replay.specs.Copies.{at_rank, journal_node_behind, copy_place, first_taken, is_of_rank, other_leaf_nodes};
 
 use crate::application::Place;
 use crate::thing::{is_same, key_of, place_of, rank};
@@ -32,7 +32,7 @@ fn add(
     ranked: &mut BTreeMap<u128, Vec<JournalNode>>,
     copy: JournalNode,
 ) -> Result<(), Memory>
-    ensures { OnOk result ((r : ℕ) → at_rank ranked.new r ≡ behind (is_of_rank r copy) copy (at_rank ranked.old r)) }
+    ensures { OnOk result ((r : ℕ) → at_rank ranked.new r ≡ journal_node_behind (is_of_rank r copy) copy (at_rank ranked.old r)) }
 {
     let Some(key) = key_of(&copy.content) else {
         return Ok(());
@@ -88,7 +88,7 @@ pub(crate) fn drop_same(
     rank: u128,
     content: &NodeContent,
 ) -> Result<(), Memory>
-    ensures { OnOk result ((r : ℕ) → at_rank ranked.new r ≡ cond (is_at (nat_cmp rank) r) (others content.now (at_rank ranked.old r)) (at_rank ranked.old r)) }
+    ensures { OnOk result ((r : ℕ) → at_rank ranked.new r ≡ cond (is_at (nat_cmp rank) r) (other_leaf_nodes content.now (at_rank ranked.old r)) (at_rank ranked.old r)) }
 {
     let copies = taken(alloc, ranked, rank);
     let left = others(alloc, copies, content)?;
@@ -121,7 +121,7 @@ fn others(
     copies: Vec<JournalNode>,
     content: &NodeContent,
 ) -> Result<Vec<JournalNode>, Memory>
-    ensures { IfOk result (λ left. left.items ≡ others content.now copies.items) }
+    ensures { IfOk result (λ left. left.items ≡ other_leaf_nodes content.now copies.items) }
 {
     let mut left = Vec::new(alloc);
     for copy in copies {

@@ -11,7 +11,7 @@ ghost use Rattle.leaf_map.specs.Kept.{Kept};
 ghost use Rattle.leaf_map.specs.LeafMap.{IsLeafMap, are_apart};
 ghost use Rattle.leaf_map.specs.Parts.{Parts};
 ghost use Rattle.leaf_map.specs.Recovered.{leaves_found, recovered_of};
-ghost use Rattle.journal_scan.specs.Journal.{BudRead, IsJournalRead, nodes_in};
+ghost use Rattle.journal_scan.specs.Journal.{BudRead, IsJournalRead, journal_nodes_in};
 ghost use Rattle.journal_scan.specs.Places.{HavePlaces};
 ghost use Rattle.journal_scan.specs.declared.bud_text.BudText.{BudText};
 ghost use Rattle.journal_scan.specs.declared.journal_read.JournalRead.{JournalRead};
@@ -51,5 +51,5 @@ pub fn what_was_read_has_the_numbers()
     ensures highest { (parts : Parts) (reads : List BudRead) (index : Index) (committed : List CommittedLeaf) (listed : List ℕ) → AreParts parts reads index committed listed
         → max parts.highest (highest_read committed reads) ≡ (recovered_of parts).highest }
     ensures nodes { (parts : Parts) (reads : List BudRead) (index : Index) (committed : List CommittedLeaf) (listed : List ℕ) → AreParts parts reads index committed listed
-        → length (nodes_in reads) ≡ (recovered_of parts).nodes }
+        → length (journal_nodes_in reads) ≡ (recovered_of parts).nodes }
 {}

@@ -8,7 +8,7 @@ ghost use Rattle.leaf_map.specs.Kept.{Kept, Placed};
 ghost use Rattle.leaf_map.specs.Recovered.{leaves_after};
 ghost use Rattle.journal_scan.specs.Content.{told};
 ghost use Rattle.log_replay.specs.Changes.{HasBlockKey, IsHeavier};
-ghost use Rattle.log_replay.specs.Standing.{IsFresh, Stands};
+ghost use Rattle.log_replay.specs.Standing.{IsFreshPlace, StandsForLeaves};
 ghost use Rattle.log_replay.specs.Told.{AreNodesOf};
 
 use crate::application::apply;
@@ -25,7 +25,7 @@ pub(crate) fn apply_nodes(
     nodes: Vec<JournalNode>,
 ) -> Result<(), Memory>
     requires { AllByRecursion HasBlockKey nodes.items }
-    ensures stands { OnOk result ((kept : List Kept) (placed : List Placed) → AreNodesOf kept placed nodes.items → Stands kept standing.old → Stands (leaves_after kept placed) standing.new) }
+    ensures stands { OnOk result ((kept : List Kept) (placed : List Placed) → AreNodesOf kept placed nodes.items → StandsForLeaves kept standing.old → StandsForLeaves (leaves_after kept placed) standing.new) }
     ensures weight { OnOk result (IsHeavier (length nodes.items) standing.old standing.new) }
 {
     for node in nodes {
@@ -37,7 +37,7 @@ pub(crate) fn apply_nodes(
 // Applies a node: the index and its maps are then those of the leaves after it.
 fn apply_node(alloc: Global, standing: &mut Standing, node: JournalNode) -> Result<(), Memory>
     requires { HasBlockKey node }
-    ensures stands { OnOk result ((kept : List Kept) (new : Placed) → node ≡ told new → IsLeaf new.node → IsFresh kept new → Stands kept standing.old → Stands (kept_after kept new) standing.new) }
+    ensures stands { OnOk result ((kept : List Kept) (new : Placed) → node ≡ told new → IsLeaf new.node → IsFreshPlace kept new → StandsForLeaves kept standing.old → StandsForLeaves (kept_after kept new) standing.new) }
     ensures weight { IsHeavier 1 standing.old standing.new }
 {
     indexes_follow();

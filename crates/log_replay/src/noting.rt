@@ -5,7 +5,7 @@ ghost use Rattle.std.specs.List.{AllByRecursion};
 ghost use Rattle.leaf_map.specs.Kept.{Kept};
 ghost use Rattle.leaf_map.specs.LeafMap.{IsKeyed};
 ghost use Rattle.log_replay.specs.Noting.{Notes, Says};
-ghost use Rattle.log_replay.specs.Standing.{Stands};
+ghost use Rattle.log_replay.specs.Standing.{StandsForLeaves};
 ghost use Rattle.log_replay.specs.Told.{AreLeavesOf, told_leaf};
 
 use crate::application::{Place, at_place, set_place};
@@ -22,7 +22,7 @@ pub(crate) fn stand(
     index: Index,
     found: Vec<JournalNode>,
 ) -> Result<Standing, Memory>
-    ensures stands { IfOk result (λ s. (kept : List Kept) → AreLeavesOf kept index found.items → Stands kept s) }
+    ensures stands { IfOk result (λ s. (kept : List Kept) → AreLeavesOf kept index found.items → StandsForLeaves kept s) }
     ensures index { IfOk result (λ s. s.index ≡ index) }
 {
     let mut standing = stand_empty(alloc, index);

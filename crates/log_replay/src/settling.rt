@@ -3,7 +3,7 @@
 ghost use Rattle.std.specs.Prelude.{◌≡◌, List, map, IfOk, OnOk};
 ghost use Rattle.leaf_map.specs.Kept.{Placed};
 ghost use Rattle.leaf_map.specs.Parts.{Committed, Parts};
-ghost use Rattle.log_replay.specs.Settling.{CanSettle, DropsOwned, HasCopies, Settles, read_of, settled_of, spare_of};
+ghost use Rattle.log_replay.specs.Settling.{CanSettle, DropsOwned, HasCopies, SettlesLeaf, leaf_read_of, settled_of, spare_of};
 
 use crate::copies::{drop_same, take_first};
 use crate::read_leaf::ReadLeaf;
@@ -19,7 +19,7 @@ pub(crate) fn drop_owned(
     reads: &[ReadLeaf],
     ranked: &mut BTreeMap<u128, Vec<JournalNode>>,
 ) -> Result<(), Memory>
-    ensures { OnOk result ((parts : Parts) (committed : List Committed) (left : List Placed) → CanSettle parts committed left → reads.now ≡ map (read_of parts) committed → HasCopies left ranked.old
+    ensures { OnOk result ((parts : Parts) (committed : List Committed) (left : List Placed) → CanSettle parts committed left → reads.now ≡ map (leaf_read_of parts) committed → HasCopies left ranked.old
         → HasCopies (spare_of parts committed left) ranked.new) }
 {
     let mut left = reads;
@@ -54,7 +54,7 @@ pub(crate) fn settle(
     reads: Vec<ReadLeaf>,
     ranked: BTreeMap<u128, Vec<JournalNode>>,
 ) -> Result<Vec<ReadLeaf>, Memory>
-    ensures { IfOk result (λ settled. (parts : Parts) (committed : List Committed) (left : List Placed) → CanSettle parts committed left → reads.items ≡ map (read_of parts) committed → HasCopies left ranked
+    ensures { IfOk result (λ settled. (parts : Parts) (committed : List Committed) (left : List Placed) → CanSettle parts committed left → reads.items ≡ map (leaf_read_of parts) committed → HasCopies left ranked
         → settled.items ≡ settled_of parts left committed) }
 {
     let mut ranked = ranked;
@@ -71,7 +71,7 @@ fn settle_leaf(
     read: ReadLeaf,
     ranked: &mut BTreeMap<u128, Vec<JournalNode>>,
 ) -> Result<ReadLeaf, Memory>
-    ensures { IfOk result (λ settled. Settles read settled ranked.old ranked.new) }
+    ensures { IfOk result (λ settled. SettlesLeaf read settled ranked.old ranked.new) }
 {
     if read.is_own {
         return Ok(read);

@@ -4,7 +4,7 @@ ghost use Rattle.std.specs.Prelude.{◌≡◌, ◌||◌, ◌++◌, ◌∷◌, []
 ghost use Rattle.std.specs.BTreeMap.{get};
 ghost use Rattle.std.specs.List.{list_any};
 ghost use Rattle.std.specs.Ordering.{nat_cmp};
-ghost use Rattle.log_replay.specs.Spared.{is_spared_by, spared_by, unknown_inode, unspared};
+ghost use Rattle.log_replay.specs.Spared.{is_spared_by_map, spared_by, unknown_inode, unspared};
 
 use crate::application::at_place;
 use crate::committed_leaf::CommittedLeaf;
@@ -35,7 +35,7 @@ fn spared_inodes(
     leaves: &[CommittedLeaf],
     named: &BTreeMap<u32, u32>,
 ) -> Result<BTreeMap<u32, bool>, Memory>
-    ensures { IfOk result (λ spared. (q : ℕ) → is_some (get nat_cmp spared q) ≡ list_any (is_spared_by named.now q) leaves.now) }
+    ensures { IfOk result (λ spared. (q : ℕ) → is_some (get nat_cmp spared q) ≡ list_any (is_spared_by_map named.now q) leaves.now) }
 {
     let mut spared = BTreeMap::new(alloc);
     let mut left = leaves;
@@ -52,7 +52,7 @@ fn note_spared(
     named: &BTreeMap<u32, u32>,
     spared: &mut BTreeMap<u32, bool>,
 ) -> Result<(), Memory>
-    ensures { OnOk result ((q : ℕ) → is_some (get nat_cmp spared.new q) ≡ (is_spared_by named.now q leaf.now || is_some (get nat_cmp spared.old q))) }
+    ensures { OnOk result ((q : ℕ) → is_some (get nat_cmp spared.new q) ≡ (is_spared_by_map named.now q leaf.now || is_some (get nat_cmp spared.old q))) }
 {
     if let Some(ino) = spared_by(leaf, named) {
         spared.insert(ino, true)?;

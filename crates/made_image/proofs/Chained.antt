@@ -25,7 +25,7 @@ use Rattle.sound_image.specs.OrphanLists.{HasOrphanNodes}
 use Rattle.sound_image.specs.Superblock.{BeginsWithSuper}
 use Rattle.volume_format.specs.Alone.{HoldsAlone}
 use Rattle.volume_format.specs.Format.{new_super}
-use Rattle.made_image.specs.Around.{AreLogAndMasters, AreMainFilled, HasTreeLaid, HoldsIndexed, IsBlankLeb, IsMadeAround, made_master, props_over}
+use Rattle.made_image.specs.Around.{AreLogAndMasters, AreMainFilled, HasTreeLaid, HoldsIndexed, IsUnwrittenLeb, IsMadeAround, made_master, props_over}
 use Rattle.made_image.specs.declared.filled_main.FilledMain.{FilledMain}
 use Rattle.made_image.proofs.Kept.{StaysInItsLebs, indexed_still}
 use Rattle.made_image.proofs.Made.{PropertiesMet, PropsLaws, is_laid}
@@ -55,7 +55,7 @@ first_lpt geo = rw (lt-ltb 0 (lpt_first geo) (omega arith)) refl
 
 -- ---- which LEBs stay
 pub masters_blank : (geo : RawGeometry) → IsGeometry geo → (a b : VolumeState) → b.leb_size ≡ a.leb_size → ((lnum : ℕ) → lnum ≢ lpt_first geo → IsSameLeb a b lnum)
-    → ((lnum : ℕ) → lnum < main_first geo → a.holds lnum ≡ filled a.leb_size []) → ((lnum : ℕ) → IsMasterLeb lnum → a.written lnum ≡ 0) → (lnum : ℕ) → IsMasterLeb lnum → IsBlankLeb b lnum
+    → ((lnum : ℕ) → lnum < main_first geo → a.holds lnum ≡ filled a.leb_size []) → ((lnum : ℕ) → IsMasterLeb lnum → a.written lnum ≡ 0) → (lnum : ℕ) → IsMasterLeb lnum → IsUnwrittenLeb b lnum
 masters_blank geo g a b size others blank open_there lnum is =
     let low : lnum < 3 = elim is [ inl one ↦ omega (arith, one) | inr two ↦ omega (arith, two) ] in
     let same = others lnum (λ e. omega (arith, e, low)) in

@@ -18,7 +18,7 @@ use Rattle.small_areas.specs.Copies.{AreCopied, IsCopied, IsMasterLeb, master_co
 use Rattle.small_areas.specs.MasterLaws.{OneText}
 use Rattle.sound_image.specs.Laid.{BeginsAlone}
 use Rattle.volume_format.specs.Alone.{HoldsAlone}
-use Rattle.made_image.specs.Around.{AreLogAndMasters, IsBlankLeb}
+use Rattle.made_image.specs.Around.{AreLogAndMasters, IsUnwrittenLeb}
 
 blank_bytes : (n : ℕ) → IsBytes (replicate n 255)
 blank_bytes zero i = ltb-true 0 256 refl
@@ -45,7 +45,7 @@ no_master_at lnum low (inl one) = omega (arith, low, one)
 no_master_at lnum low (inr two) = omega (arith, low, two)
 
 pub areas_laid : OneText → (geo : RawGeometry) (a b c : VolumeState) (sqnum : ℕ) (master : Master) (r : Result (Unit {0}) AreaFault) {P : List ℕ → Type 0} → geo.leb_size ≡ a.leb_size → b.leb_size ≡ a.leb_size
-    → ((lnum : ℕ) → IsMasterLeb lnum → IsBlankLeb a lnum) → HoldsAlone geo b 3 (written (sqnum + 1) 0 (commit_start (record { cmt_no = 0 }))) → WorksOn a b 3 P
+    → ((lnum : ℕ) → IsMasterLeb lnum → IsUnwrittenLeb a lnum) → HoldsAlone geo b 3 (written (sqnum + 1) 0 (commit_start (record { cmt_no = 0 }))) → WorksOn a b 3 P
     → OnOk r (AreCopied b c (room_of geo.min_io) (sqnum + 1) master) → ((lnum : ℕ) → (IsMasterLeb lnum → ⊥) → IsSameLeb b c lnum) → OnOk r (AreLogAndMasters geo sqnum master c.holds)
 areas_laid one geo a b c sqnum master (Err fault) size same blank log first copied others = tt
 areas_laid one geo a b c sqnum master (Ok done) {P} size same blank log first copied others =

@@ -13,7 +13,7 @@ use Rattle.index_media.specs.PlacedRow.{PlacedRow, all_nodes, branch_to, branche
 use Rattle.index_media.specs.Stored.{IsStoredIndex}
 use Rattle.leaf_map.specs.Kept.{Placed}
 use Rattle.sound_image.specs.Leaves.{IsPlacedIn}
-use Rattle.laid_image.specs.Laid.{leaf_of}
+use Rattle.laid_image.specs.Laid.{leaf_of_placed}
 use Rattle.laid_main.specs.Filling.{AreFilled}
 use Rattle.made_image.specs.Around.{HoldsIndexed, StandsPlain}
 use Rattle.made_image.specs.declared.filled_main.FilledMain.{FilledMain}
@@ -51,13 +51,13 @@ module _ (geo : RawGeometry) (c d : ℕ → List ℕ) (same : (lnum : ℕ) → m
       let Q : List ℕ → Type 0 = λ leb. IsLeafNode (take x.len (drop x.offs leb)) x.sqnum x.group x.node in
       record { room = subst P (sym (same x.lnum low)) is.room; is = subst Q (sym (same x.lnum low)) is.is }
 
-  nodes_still : (high : ℕ) (nodes : List Placed) → All (Lies (main_first geo) high) (map branch_to (map leaf_of nodes)) → AllByRecursion (StandsPlain c) nodes → AllByRecursion (StandsPlain d) nodes
+  nodes_still : (high : ℕ) (nodes : List Placed) → All (Lies (main_first geo) high) (map branch_to (map leaf_of_placed nodes)) → AllByRecursion (StandsPlain c) nodes → AllByRecursion (StandsPlain d) nodes
   nodes_still high [] within stand = tt
   nodes_still high (x ∷ nodes) within stand =
       let P : Branch → Type 0 = Lies (main_first geo) high in
-      let rest = map branch_to (map leaf_of nodes) in (
-        record { stands = placed_still x (All-head P (branch_to (leaf_of x)) rest within).0 stand.0.stands; plain = stand.0.plain; shows = stand.0.shows },
-        nodes_still high nodes (All-tail P (branch_to (leaf_of x)) rest within) stand.1,
+      let rest = map branch_to (map leaf_of_placed nodes) in (
+        record { stands = placed_still x (All-head P (branch_to (leaf_of_placed x)) rest within).0 stand.0.stands; plain = stand.0.plain; shows = stand.0.shows },
+        nodes_still high nodes (All-tail P (branch_to (leaf_of_placed x)) rest within) stand.1,
       )
 
   pub indexed_still : (main : FilledMain) (placed : PlacedRow) (nodes : List Placed) → StaysInItsLebs → HoldsIndexed geo c main placed nodes → HoldsIndexed geo d main placed nodes

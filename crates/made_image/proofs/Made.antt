@@ -29,9 +29,9 @@ use Rattle.sound_image.specs.OrphanLists.{HasOrphanNodes}
 use Rattle.sound_image.specs.Properties.{HasProperties, is_marked_index, is_unmarked, prop_of}
 use Rattle.sound_image.specs.Space.{HasSums, committed_bytes}
 use Rattle.sound_image.specs.Superblock.{BeginsWithSuper, HasSuperblock}
-use Rattle.laid_image.specs.Laid.{AreEndsBlank, IsLaidImage, IsLaidNode, ShowTree, leaf_of, tree_of_nodes}
-use Rattle.laid_main.specs.Filling.{AreFilled, Takes}
-use Rattle.laid_main.specs.Props.{AreTaken, laid_props, prop_behind}
+use Rattle.laid_image.specs.Laid.{AreEndsBlank, IsLaidImage, IsLaidNode, ShowTree, leaf_of_placed, tree_of_nodes}
+use Rattle.laid_main.specs.Filling.{AreFilled, TakesOfLebs}
+use Rattle.laid_main.specs.Props.{AreBytesTaken, laid_props, prop_behind}
 use Rattle.volume_format.specs.Format.{new_super}
 use Rattle.made_image.specs.Around.{AreLogAndMasters, AreMainFilled, HoldsIndexed, StandsPlain, made_master, props_over}
 use Rattle.made_image.specs.declared.filled_main.FilledMain.{FilledMain}
@@ -57,8 +57,8 @@ PropertiesMet = (contents : ℕ → List ℕ) (geo : RawGeometry) (props : List 
 
 -- the properties of main LEBs into which nodes were laid add up
 pub record PropsLaws : Type 0 where
-  pub sums : (geo : RawGeometry) (leaves index : List ℕ) (nodes below : List Branch) → IsGeometry geo → AreTaken geo leaves → AreTaken geo index
-      → Takes (main_first geo) leaves below → Takes (main_first geo + length leaves) index nodes → (i : ℕ) (prop : Lprop) → slice_get (laid_props geo leaves index) i ≡ Some prop
+  pub sums : (geo : RawGeometry) (leaves index : List ℕ) (nodes below : List Branch) → IsGeometry geo → AreBytesTaken geo leaves → AreBytesTaken geo index
+      → TakesOfLebs (main_first geo) leaves below → TakesOfLebs (main_first geo + length leaves) index nodes → (i : ℕ) (prop : Lprop) → slice_get (laid_props geo leaves index) i ≡ Some prop
       → prop.free + prop.dirty + bytes_taken (filter (λ branch. branch.lnum == main_first geo + i) (nodes ++ below)) ≡ geo.leb_size
   pub ends : (geo : RawGeometry) (contents : ℕ → List ℕ) (leaves index : List ℕ) → IsGeometry geo → AreFilled geo contents (main_first geo) leaves
       → AreFilled geo contents (main_first geo + length leaves) index → (i : ℕ) (prop : Lprop) → slice_get (laid_props geo leaves index) i ≡ Some prop
@@ -118,14 +118,14 @@ module _ (geo : RawGeometry) (g : IsGeometry geo) (small : geo.big ≡ false) (m
       All-cons (λ (lnum : ℕ). is_marked_index geo props lnum ≡ true) x.lnum (map (λ (branch : Branch). branch.lnum) branches) (marked_at x.lnum here.0 here.1)
       (marked branches (All-tail (Lies behind past) x branches within))
 
-  stand : (xs : List Placed) → All (Lies first behind) (map branch_to (map leaf_of xs)) → AllByRecursion (StandsPlain c) xs → AllByRecursion (IsLaidNode c geo props) xs
+  stand : (xs : List Placed) → All (Lies first behind) (map branch_to (map leaf_of_placed xs)) → AllByRecursion (StandsPlain c) xs → AllByRecursion (IsLaidNode c geo props) xs
   stand [] within stands = tt
   stand (x ∷ xs) within stands =
       let P : Branch → Type 0 = Lies first behind in
-      let rest = map branch_to (map leaf_of xs) in
-      let here = All-head P (branch_to (leaf_of x)) rest within in (
+      let rest = map branch_to (map leaf_of_placed xs) in
+      let here = All-head P (branch_to (leaf_of_placed x)) rest within in (
         record { stands = stands.0.stands; unmarked = unmarked x.lnum here.0 here.1; plain = stands.0.plain; shows = stands.0.shows },
-        stand xs (All-tail P (branch_to (leaf_of x)) rest within) stands.1,
+        stand xs (All-tail P (branch_to (leaf_of_placed x)) rest within) stands.1,
       )
 
   -- ---- sums and ends
@@ -135,8 +135,8 @@ module _ (geo : RawGeometry) (g : IsGeometry geo) (small : geo.big ≡ false) (m
       below : List Branch
       below = map branch_to (leaves_in (plain placed))
 
-      takes : Takes first main.leaves.items (map branch_to (leaves_in (plain placed)))
-      takes = let P : List Leaf → Type 0 = λ leaves. Takes first main.leaves.items (map branch_to leaves) in subst P (sym h.said) h.leaves
+      takes : TakesOfLebs first main.leaves.items (map branch_to (leaves_in (plain placed)))
+      takes = let P : List Leaf → Type 0 = λ leaves. TakesOfLebs first main.leaves.items (map branch_to leaves) in subst P (sym h.said) h.leaves
 
       by : (b : Bool) → nat_lt lnum first ≡ b → cond b None (slice_get props (lnum - first)) ≡ Some prop → prop.free + prop.dirty + committed_bytes placed lnum ≡ geo.leb_size
       by true e there = absurd cc

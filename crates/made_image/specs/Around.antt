@@ -24,9 +24,9 @@ use Rattle.leaf_map.specs.Shown.{tree_of}
 use Rattle.sound_image.specs.Laid.{BeginsAlone, IsPlainLeaf}
 use Rattle.sound_image.specs.Leaves.{IsPlacedIn}
 use Rattle.sound_image.specs.Superblock.{BeginsWithSuper}
-use Rattle.laid_image.specs.Laid.{IsLaidImage, ShowTree, leaf_of}
-use Rattle.laid_main.specs.Filling.{AreFilled, Takes}
-use Rattle.laid_main.specs.Props.{AreTaken, laid_props}
+use Rattle.laid_image.specs.Laid.{IsLaidImage, ShowTree, leaf_of_placed}
+use Rattle.laid_main.specs.Filling.{AreFilled, TakesOfLebs}
+use Rattle.laid_main.specs.Props.{AreBytesTaken, laid_props}
 use Rattle.volume_format.specs.Format.{new_super}
 use Rattle.made_image.specs.declared.filled_main.FilledMain.{FilledMain}
 
@@ -55,8 +55,8 @@ dark_in geo prop = if prop.index then 0 else dark_among geo (prop.free + prop.di
 
 -- of main LEBs so many bytes are taken, words of each that are some and at most the LEB; there is an index, and one LEB more
 pub record AreMainFilled (geo : RawGeometry) (main : FilledMain) : Type 0 where
-  pub leaves : AreTaken geo main.leaves.items
-  pub index : AreTaken geo main.index.items
+  pub leaves : AreBytesTaken geo main.leaves.items
+  pub index : AreBytesTaken geo main.index.items
   pub some : 0 < length main.index.items
   pub room : length main.leaves.items + length main.index.items < main_lebs geo
 
@@ -65,8 +65,8 @@ abbrev pub props_over : RawGeometry → FilledMain → List Lprop
 props_over geo main = laid_props geo main.leaves.items main.index.items
 
 -- the number of main LEBs of which bytes are taken
-abbrev pub taken_lebs : FilledMain → ℕ
-taken_lebs main = length main.leaves.items + length main.index.items
+abbrev pub taken_main_lebs : FilledMain → ℕ
+taken_main_lebs main = length main.leaves.items + length main.index.items
 
 -- The first master over main LEBs that were filled so, and over the tree of their properties. The sums are true; the first empty main LEB is the
 -- collector's, and index nodes go on behind the last one.
@@ -79,8 +79,8 @@ made_master geo main at = record {
   root_lnum = main.root.lnum;
   root_offs = main.root.offs;
   root_len = main.root.len;
-  gc_lnum = main_first geo + taken_lebs main;
-  ihead_lnum = main_first geo + taken_lebs main - 1;
+  gc_lnum = main_first geo + taken_main_lebs main;
+  ihead_lnum = main_first geo + taken_main_lebs main - 1;
   ihead_offs = in_units geo.min_io (get_or main.index.items (length main.index.items - 1) 0);
   index_size = sum main.index.items;
   total_free = sum_by (λ prop. prop.free) (props_over geo main);
@@ -97,13 +97,13 @@ made_master geo main at = record {
   lsave_lnum = 0;
   lsave_offs = 0;
   lscan_lnum = main_first geo;
-  empty_lebs = main_lebs geo - taken_lebs main;
+  empty_lebs = main_lebs geo - taken_main_lebs main;
   idx_lebs = length main.index.items;
   leb_cnt = geo.leb_cnt;
 }
 
 -- nothing is written in this LEB
-pub record IsBlankLeb (state : VolumeState) (lnum : ℕ) : Type 0 where
+pub record IsUnwrittenLeb (state : VolumeState) (lnum : ℕ) : Type 0 where
   pub blank : state.holds lnum ≡ filled state.leb_size []
   pub open_there : state.written lnum ≡ 0
 
@@ -131,17 +131,17 @@ pub record StandsPlain (contents : ℕ → List ℕ) (x : Placed) : Type 0 where
 -- Leaf nodes stand in the first main LEBs, no two of them overlap, and they show a tree; behind them stands an index of their leaves, whose root has the key of
 -- its first child. Both take so many bytes of each LEB, and behind the units of these nothing is written.
 pub record HoldsIndexed (geo : RawGeometry) (contents : ℕ → List ℕ) (main : FilledMain) (placed : PlacedRow) (nodes : List Placed) : Type 0 where
-  pub leaves : Takes (main_first geo) main.leaves.items (map branch_to (map leaf_of nodes))
+  pub leaves : TakesOfLebs (main_first geo) main.leaves.items (map branch_to (map leaf_of_placed nodes))
   pub leaves_filled : AreFilled geo contents (main_first geo) main.leaves.items
-  pub nodes_taken : Takes (main_first geo + length main.leaves.items) main.index.items (all_nodes placed)
+  pub nodes_taken : TakesOfLebs (main_first geo + length main.leaves.items) main.index.items (all_nodes placed)
   pub index_filled : AreFilled geo contents (main_first geo + length main.leaves.items) main.index.items
   pub index : IsStoredIndex contents geo.fanout main.root placed
   pub key : map (λ (branch : Branch). branch.key) (take 1 (branches_of index.children)) ≡ main.root.key ∷ []
-  pub said : leaves_in (plain placed) ≡ map leaf_of nodes
+  pub said : leaves_in (plain placed) ≡ map leaf_of_placed nodes
   pub stand : AllByRecursion (StandsPlain contents) nodes
-  pub distinct : AreDistinct (map leaf_of nodes)
-  pub disjoint : IsTrue (are_disjoint (map branch_to (map leaf_of nodes)))
-  pub tree : ShowTree (map kept_at nodes) (tree_of (map kept_at nodes) (highest_key main.highest (map (λ x. (leaf_of x).key) nodes)))
+  pub distinct : AreDistinct (map leaf_of_placed nodes)
+  pub disjoint : IsTrue (are_disjoint (map branch_to (map leaf_of_placed nodes)))
+  pub tree : ShowTree (map kept_at nodes) (tree_of (map kept_at nodes) (highest_key main.highest (map (λ x. (leaf_of_placed x).key) nodes)))
 
 -- The contents are an image that was laid around these leaves and this index. Its superblock is that of a new volume with this identifier. LEBs 1 and 2 have
 -- the same master, the first one over these main LEBs and over the tree of their properties.

@@ -7,7 +7,7 @@ ghost use Rattle.ubi_volume.specs.Geometry.{IsGeometryOf};
 ghost use Rattle.ubi_volume.specs.Frame.{IsSameLeb};
 ghost use Rattle.ubi_volume.specs.Volume.{SameShape, filled};
 ghost use Rattle.small_areas.specs.Copies.{AreCopied, IsMasterLeb, room_of};
-ghost use Rattle.made_image.specs.Around.{AreLogAndMasters, IsBlankLeb};
+ghost use Rattle.made_image.specs.Around.{AreLogAndMasters, IsUnwrittenLeb};
 
 use leb_scan::one_text;
 use media_sys::Master;
@@ -27,7 +27,7 @@ pub(crate) fn lay_areas<V: Volume>(
 ) -> Result<(), AreaFault>
     requires geometry { IsGeometryOf (raw_of geometry.now) (V.state volume.old) }
     requires number { sqnum < 2 ^ 63 }
-    requires blank { (lnum : ℕ) → IsMasterLeb lnum → IsBlankLeb (V.state volume.old) lnum }
+    requires blank { (lnum : ℕ) → IsMasterLeb lnum → IsUnwrittenLeb (V.state volume.old) lnum }
     ensures laid { OnOk result (AreLogAndMasters (raw_of geometry.now) sqnum master.now (V.state volume.new).holds) }
     ensures others { (lnum : ℕ) → lnum ≢ 3 → (IsMasterLeb lnum → ⊥) → IsSameLeb (V.state volume.old) (V.state volume.new) lnum }
     ensures spent { (V.state volume.old).spent → (V.state volume.new).spent }

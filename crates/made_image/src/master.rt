@@ -3,7 +3,7 @@
 ghost use Rattle.std.specs.Prelude.{◌≡◌, ◌-◌, ◌<◌, get_or, length};
 ghost use Rattle.ubifs_base.specs.RawOf.{raw_of};
 ghost use Rattle.lpt_area.specs.Written.{in_units};
-ghost use Rattle.laid_main.specs.Props.{AreTaken};
+ghost use Rattle.laid_main.specs.Props.{AreBytesTaken};
 ghost use Rattle.made_image.specs.Around.{AreMainFilled, made_master, props_over};
 
 use crate::filled_main::FilledMain;
@@ -63,7 +63,7 @@ pub(crate) fn master_over(
 // Where the units of the last LEB's bytes end.
 fn last_end(geometry: &Geometry, used: &[u32]) -> u32
     requires some { 0 < length used.now }
-    requires taken { AreTaken (raw_of geometry.now) used.now }
+    requires taken { AreBytesTaken (raw_of geometry.now) used.now }
     ensures { result ≡ in_units geometry.now.min_io (get_or used.now (length used.now - 1) 0) }
 {
     let last = used[used.len() - 1];

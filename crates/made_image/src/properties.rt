@@ -4,7 +4,7 @@ ghost use Rattle.std.specs.Prelude.{◌≡◌, ◌≤◌, ◌+◌, ◌-◌, ◌%
 ghost use Rattle.std.specs.List.{sum_by};
 ghost use Rattle.ubifs_base.specs.Areas.{main_lebs};
 ghost use Rattle.ubifs_base.specs.RawOf.{raw_of};
-ghost use Rattle.laid_main.specs.Props.{AreTaken, laid_props, prop_behind};
+ghost use Rattle.laid_main.specs.Props.{AreBytesTaken, laid_props, prop_behind};
 ghost use Rattle.made_image.specs.Around.{dark_in, dead_in};
 
 use media_lpt::Lprop;
@@ -19,8 +19,8 @@ pub(crate) fn properties(
     leaves: &[u32],
     index: &[u32],
 ) -> Result<Vec<Lprop>, AllocError>
-    requires leaves { AreTaken (raw_of geometry.now) leaves.now }
-    requires index { AreTaken (raw_of geometry.now) index.now }
+    requires leaves { AreBytesTaken (raw_of geometry.now) leaves.now }
+    requires index { AreBytesTaken (raw_of geometry.now) index.now }
     requires few { length leaves.now + length index.now ≤ main_lebs (raw_of geometry.now) }
     ensures props { IfOk result (λ props. props.items ≡ laid_props (raw_of geometry.now) leaves.now index.now) }
 {
@@ -45,7 +45,7 @@ fn push_all(
     index: bool,
     props: &mut Vec<Lprop>,
 ) -> Result<(), AllocError>
-    requires used { AreTaken (raw_of geometry.now) used.now }
+    requires used { AreBytesTaken (raw_of geometry.now) used.now }
     ensures pushed { OnOk result (props.new.items ≡ props.old.items ++ map (λ bytes. prop_behind (raw_of geometry.now) bytes index) used.now) }
 {
     for bytes in used {

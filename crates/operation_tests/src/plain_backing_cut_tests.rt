@@ -10,7 +10,7 @@ ghost use Rattle.fs_model.specs.Proper.{IsProper};
 ghost use Rattle.fs_model.specs.Worked.{fresh};
 ghost use Rattle.fs_model.specs.declared.space.Class.TheVariants.{Ordinary};
 ghost use Rattle.operation_tests.specs.Sample.{sample_group};
-ghost use Rattle.plain_backing.specs.PlainBacking.{state_of};
+ghost use Rattle.plain_backing.specs.PlainBacking.{backing_state_of};
 
 use crate::vfs_ops_fs_tests::file_group;
 use crate::vfs_ops_tests::fresh_backing;
@@ -69,8 +69,8 @@ fn show_cut<B: Backing>(backing: &B)
 
 // A fresh volume on which a file was made, and all is synced. A cut leaves the file, and may leave it.
 fn file_synced(alloc: Global) -> Result<PlainBacking, Memory>
-    ensures left { IfOk result (λ backing. (tree : Tree) → MayLeave (state_of backing).journal tree → tree ≡ without_nameless (apply fresh.tree sample_group)) }
-    ensures may { IfOk result (λ backing. MayLeave (state_of backing).journal (without_nameless (state_of backing).tree)) }
+    ensures left { IfOk result (λ backing. (tree : Tree) → MayLeave (backing_state_of backing).journal tree → tree ≡ without_nameless (apply fresh.tree sample_group)) }
+    ensures may { IfOk result (λ backing. MayLeave (backing_state_of backing).journal (without_nameless (backing_state_of backing).tree)) }
 {
     let mut backing = fresh_backing(alloc)?;
     let group = file_group(alloc)?;

@@ -5,7 +5,7 @@ ghost use Rattle.fs_model.specs.Backing.{FitsGroup, FitsOrphans, FitsPage, IsMod
 ghost use Rattle.fs_model.specs.Change.{apply};
 ghost use Rattle.fs_model.specs.Making.{new_file};
 ghost use Rattle.fs_model.specs.Proper.{IsProper};
-ghost use Rattle.plain_backing.specs.PlainBacking.{state_of};
+ghost use Rattle.plain_backing.specs.PlainBacking.{backing_state_of};
 ghost use Rattle.operation_tests.specs.Sample.{sample_group, sample_page};
 
 use crate::vfs_ops_tests::{answered, fresh_backing, fresh_files, path, root};
@@ -157,10 +157,10 @@ fn put_and_read(
 ) -> Result<u32, CallFault>
     requires modest { IsModest need.now }
     requires credit { 1 ≤ need.now.credits }
-    requires proper { IsProper (state_of backing.old).tree }
-    requires group { FitsGroup (state_of backing.old).tree (record { bytes = need.now.bytes; nodes = need.now.nodes }) group.now }
-    requires orphans { FitsOrphans (state_of backing.old).tree (state_of backing.old).closed (state_of backing.old).orphan_limit group.now }
-    requires page { FitsPage (apply (state_of backing.old).tree group.now) page.now }
+    requires proper { IsProper (backing_state_of backing.old).tree }
+    requires group { FitsGroup (backing_state_of backing.old).tree (record { bytes = need.now.bytes; nodes = need.now.nodes }) group.now }
+    requires orphans { FitsOrphans (backing_state_of backing.old).tree (backing_state_of backing.old).closed (backing_state_of backing.old).orphan_limit group.now }
+    requires page { FitsPage (apply (backing_state_of backing.old).tree group.now) page.now }
     requires out { length out.old ≡ 4096 }
 {
     backing.admit(need)?;

@@ -3,7 +3,7 @@
 ghost use Rattle.std.specs.Prelude.{◌≡◌, IfOk};
 ghost use Rattle.fs_laws.specs.Sound.{IsCall};
 ghost use Rattle.fs_model.specs.Worked.{fresh};
-ghost use Rattle.plain_backing.specs.PlainBacking.{state_of};
+ghost use Rattle.plain_backing.specs.PlainBacking.{backing_state_of};
 ghost use Rattle.vfs_ops.specs.Events.{IsCalled, grant_of};
 
 use crate::vfs_ops_tests::{fresh_tree, path};
@@ -16,8 +16,8 @@ use vfs_ops::{Event, Fs, Outcome};
 
 // A fresh volume of 64 main LEBs, which takes two orphans.
 fn backing_of_two(alloc: Global) -> Result<PlainBacking, Memory>
-    ensures tree { IfOk result (λ backing. (state_of backing).tree ≡ fresh.tree) }
-    ensures credits { IfOk result (λ backing. (state_of backing).space.credits ≡ 0) }
+    ensures tree { IfOk result (λ backing. (backing_state_of backing).tree ≡ fresh.tree) }
+    ensures credits { IfOk result (λ backing. (backing_state_of backing).space.credits ≡ 0) }
 {
     let Ok(geo) = Geometry::new(&RawGeometry::plain(16384, 512, 64, 8)) else {
         return Err(Memory);

@@ -3,7 +3,7 @@
 ghost use Rattle.std.specs.Prelude.{IfOk, ◌<◌, ◌^◌};
 ghost use Rattle.fs_model.specs.Proper.{IsProper};
 ghost use Rattle.buffered_files.specs.Present.{IsKept};
-ghost use Rattle.plain_backing.specs.PlainBacking.{state_of};
+ghost use Rattle.plain_backing.specs.PlainBacking.{backing_state_of};
 
 use crate::vfs_ops_tests::{first_wrong, fresh_files};
 use buffered_files::{Kept, bytes};
@@ -14,7 +14,7 @@ use ubifs_base::Memory;
 
 // A backing with a file of 4,100 bytes of 7, which is 65.
 fn written_backing(alloc: Global) -> Result<PlainBacking, Memory>
-    ensures { IfOk result (λ backing. IsProper (state_of backing).tree) }
+    ensures { IfOk result (λ backing. IsProper (backing_state_of backing).tree) }
 {
     let mut fs = fresh_files(alloc)?;
     first_wrong(alloc, &mut fs, b"cowa", &[65, 65, 4100, 0])?;
@@ -28,9 +28,9 @@ fn byte_at(
     kept: &mut Kept,
     place: u64,
 ) -> Result<u8, StoreFault>
-    requires kept { IsKept (state_of backing.old).tree kept.old }
+    requires kept { IsKept (backing_state_of backing.old).tree kept.old }
     requires place { place < 2 ^ 41 }
-    ensures kept { IsKept (state_of backing.new).tree kept.new }
+    ensures kept { IsKept (backing_state_of backing.new).tree kept.new }
 {
     let bytes = bytes(alloc, backing, kept, 65, place, 1)?;
     match bytes.as_slice().first() {

@@ -5,7 +5,7 @@ ghost use Rattle.fs_model.specs.Making.{new_dir};
 ghost use Rattle.fs_model.specs.Proper.{are_bytes};
 ghost use Rattle.fs_model.specs.Worked.{fresh};
 ghost use Rattle.fs_laws.specs.Sound.{IsCall};
-ghost use Rattle.plain_backing.specs.PlainBacking.{state_of};
+ghost use Rattle.plain_backing.specs.PlainBacking.{backing_state_of};
 
 use fs_laws::a_fresh_volume_is_sound;
 use fs_model::{Backing, Change, Group, Inode, Kind, Mode, Op, Reply, Space};
@@ -49,8 +49,8 @@ pub(crate) fn fresh_tree(alloc: Global) -> Result<Tree, Memory>
 
 // A fresh volume of 64 main LEBs, which takes one orphan.
 pub(crate) fn fresh_backing(alloc: Global) -> Result<PlainBacking, Memory>
-    ensures tree { IfOk result (λ backing. (state_of backing).tree ≡ fresh.tree) }
-    ensures credits { IfOk result (λ backing. (state_of backing).space.credits ≡ 0) }
+    ensures tree { IfOk result (λ backing. (backing_state_of backing).tree ≡ fresh.tree) }
+    ensures credits { IfOk result (λ backing. (backing_state_of backing).space.credits ≡ 0) }
 {
     let Ok(geo) = Geometry::new(&RawGeometry::plain(16384, 512, 64, 8)) else {
         return Err(Memory);

@@ -6,7 +6,7 @@ use Rattle.std.specs.Map.{lookup}
 use Rattle.std.proofs.lemmas.Bool.{false≢true, cases_lt}
 use Rattle.std.proofs.lemmas.Bool.Decides.{eqb_tells, nat_tests}
 use Rattle.fs_model.specs.Files.{Blocks, pair_cmp, last_block_of}
-use Rattle.plain_backing.specs.TreeReads.{has_block, IsLast}
+use Rattle.plain_backing.specs.TreeReads.{has_block, IsGreatestBlock}
 use Rattle.plain_backing.proofs.Walk.{at_key}
 
 -- whether a block is there, by the first entry
@@ -53,10 +53,10 @@ last_there (e ∷ bs) ino h = elim (eqb_tells e.0.0 ino) [
   ])
 ]
 
-pub last_is_greatest : (bs : Blocks) (ino : ℕ) → IfSome (last_block_of bs ino) (IsLast bs ino)
+pub last_is_greatest : (bs : Blocks) (ino : ℕ) → IfSome (last_block_of bs ino) (IsGreatestBlock bs ino)
 last_is_greatest bs ino = by (last_block_of bs ino) refl
   where
-    by : (o : Option ℕ) → last_block_of bs ino ≡ o → IfSome o (IsLast bs ino)
+    by : (o : Option ℕ) → last_block_of bs ino ≡ o → IfSome o (IsGreatestBlock bs ino)
     by None e = tt
     by (Some n) e = record {
       there = ap (λ o. has_block bs ino (unwrap_or o 0)) (sym e) ∙ last_there bs ino (ap is_some e);

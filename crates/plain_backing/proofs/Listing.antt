@@ -20,7 +20,7 @@ use Rattle.std.proofs.lemmas.Bool.Decides.{eqb_tells, nat_tests}
 use Rattle.std.proofs.lemmas.List.Elements.{filter_map-append}
 use Rattle.fs_model.specs.declared.inode.Entry.{Entry}
 use Rattle.plain_backing.specs.declared.tree_cells.Named.{Named}
-use Rattle.plain_backing.specs.Cells.{seen}
+use Rattle.plain_backing.specs.Cells.{seen_cells}
 use Rattle.fs_model.specs.Files.{Blocks, pair_cmp, name_cmp}
 use Rattle.plain_backing.specs.TreeCells.{entry_of, in_directory}
 use Rattle.fs_model.specs.Files.{last_block_of}
@@ -114,15 +114,15 @@ listed_more dir out new cells left rest c so is told =
     ap (λ xs. xs ++ in_directory dir rest) told ∙ append_assoc out (in_directory dir (c ∷ [])) (in_directory dir rest) ∙ ap (λ xs. out ++ xs) (sym (in_directory-cons dir c rest)) ∙ ap (λ l. out ++ in_directory dir l) (sym is) ∙ so
 
 -- ---- the last block
-pub blocks_between : (ino : ℕ) (test : ℕ × ℕ → Bool) → ((k : ℕ × ℕ) → k.0 ≡ ino → test k ≡ true) → (cells : List ((ℕ × ℕ) × Option (List ℕ))) → last_block_of (seen (filter (λ c. test c.0) cells)) ino ≡ last_block_of (seen cells) ino
+pub blocks_between : (ino : ℕ) (test : ℕ × ℕ → Bool) → ((k : ℕ × ℕ) → k.0 ≡ ino → test k ≡ true) → (cells : List ((ℕ × ℕ) × Option (List ℕ))) → last_block_of (seen_cells (filter (λ c. test c.0) cells)) ino ≡ last_block_of (seen_cells cells) ino
 blocks_between ino test inside [] = refl
 blocks_between ino test inside (c ∷ cells) = by (blocks_between ino test inside cells) (test c.0) refl c.1
   where
     other : test c.0 ≡ false → (c.0.0 == ino) ≡ false
     other h = elim (eqb_tells c.0.0 ino) [ inl same ↦ absurd (false≢true (sym h ∙ inside c.0 same.1)) | inr apart ↦ apart.0 ]
 
-    by : last_block_of (seen (filter (λ c. test c.0) cells)) ino ≡ last_block_of (seen cells) ino → (b : Bool) → test c.0 ≡ b → (o : Option (List ℕ))
-        → last_block_of (seen (cond b ((c.0, o) ∷ filter (λ c. test c.0) cells) (filter (λ c. test c.0) cells))) ino ≡ last_block_of (seen ((c.0, o) ∷ cells)) ino
+    by : last_block_of (seen_cells (filter (λ c. test c.0) cells)) ino ≡ last_block_of (seen_cells cells) ino → (b : Bool) → test c.0 ≡ b → (o : Option (List ℕ))
+        → last_block_of (seen_cells (cond b ((c.0, o) ∷ filter (λ c. test c.0) cells) (filter (λ c. test c.0) cells))) ino ≡ last_block_of (seen_cells ((c.0, o) ∷ cells)) ino
     by more true h None = more
     by more true h (Some bytes) = ap (λ r. cond (c.0.0 == ino) (Some (max c.0.1 (unwrap_or r 0))) r) more
     by more false h None = more
@@ -192,7 +192,7 @@ keys_append (e ∷ es) fs = ap (λ ks. e.0 ∷ ks) (keys_append es fs)
 
 -- the cells that are left say which block is the last
 pub record LastLeft (cells left : List ((ℕ × ℕ) × Option (List ℕ))) (ino : ℕ) : Type 0 where
-  pub last : last_block_of (seen left) ino ≡ last_block_of (seen cells) ino
+  pub last : last_block_of (seen_cells left) ino ≡ last_block_of (seen_cells cells) ino
   pub order : IsStrictlySortedBy pair_cmp (keys_of left)
 
 pub last_begins : (ino : ℕ) (end : Bound (ℕ × ℕ)) (cells left : List ((ℕ × ℕ) × Option (List ℕ))) → ((k : ℕ × ℕ) → k.0 ≡ ino → is_past_end pair_cmp end k ≡ false) → IsStrictlySortedBy pair_cmp (keys_of cells)
@@ -201,11 +201,11 @@ last_begins ino end cells left past sorted is =
     let test : ℕ × ℕ → Bool = range_contains pair_cmp (Included (ino, 0)) end in
     let P : List ((ℕ × ℕ) × Option (List ℕ)) → Type 0 = λ z. IsStrictlySortedBy pair_cmp (keys_of z) in
     record {
-      last = ap (λ z. last_block_of (seen z) ino) is ∙ blocks_between ino test (blocks_in ino end past) cells;
+      last = ap (λ z. last_block_of (seen_cells z) ino) is ∙ blocks_between ino test (blocks_in ino end past) cells;
       order = subst P (sym is) (sorted_filter pair_cmp test cells sorted);
     }
 
-seen_push : (t : List ((ℕ × ℕ) × Option (List ℕ))) (k : ℕ × ℕ) (o : Option (List ℕ)) → seen (t ++ (k, o) ∷ []) ≡ seen t ++ cons_option (option_map (λ w. (k, w)) o) []
+seen_push : (t : List ((ℕ × ℕ) × Option (List ℕ))) (k : ℕ × ℕ) (o : Option (List ℕ)) → seen_cells (t ++ (k, o) ∷ []) ≡ seen_cells t ++ cons_option (option_map (λ w. (k, w)) o) []
 seen_push t k o = filter_map-append (λ c. option_map (λ w. (c.0, w)) c.1) t ((k, o) ∷ [])
 
 front_order : (left t : List ((ℕ × ℕ) × Option (List ℕ))) (k : ℕ × ℕ) (o : Option (List ℕ)) → IsStrictlySortedBy pair_cmp (keys_of left) → left ≡ t ++ (k, o) ∷ [] → IsStrictlySortedBy pair_cmp (keys_of t ++ k ∷ [])
@@ -214,7 +214,7 @@ front_order left t k o s is = subst (IsStrictlySortedBy pair_cmp) (ap keys_of is
 -- a cell of another inode, or an empty one, is passed
 pub last_passed : (cells left t : List ((ℕ × ℕ) × Option (List ℕ))) (ino : ℕ) (k : ℕ × ℕ) (o : Option (List ℕ)) → LastLeft cells left ino → left ≡ t ++ (k, o) ∷ [] → ((k.0 == ino) && is_some o) ≡ false → LastLeft cells t ino
 last_passed cells left t ino k o so is h = record {
-  last = sym (by o h) ∙ sym (ap (λ z. last_block_of z ino) (seen_push t k o)) ∙ ap (λ z. last_block_of (seen z) ino) (sym is) ∙ so.last;
+  last = sym (by o h) ∙ sym (ap (λ z. last_block_of z ino) (seen_push t k o)) ∙ ap (λ z. last_block_of (seen_cells z) ino) (sym is) ∙ so.last;
   order = sorted_front pair_cmp (keys_of t) (k ∷ []) (front_order left t k o so.order is);
 }
   where
@@ -226,21 +226,21 @@ last_passed cells left t ino k o so is h = record {
     both true e = absurd cc
     both false e = refl
 
-    by : (p : Option (List ℕ)) → ((k.0 == ino) && is_some p) ≡ false → last_block_of (seen t ++ cons_option (option_map (λ w. (k, w)) p) []) ino ≡ last_block_of (seen t) ino
-    by None e = nothing (seen t)
-    by (Some bytes) e = last_other (seen t) k bytes ino (both (k.0 == ino) e)
+    by : (p : Option (List ℕ)) → ((k.0 == ino) && is_some p) ≡ false → last_block_of (seen_cells t ++ cons_option (option_map (λ w. (k, w)) p) []) ino ≡ last_block_of (seen_cells t) ino
+    by None e = nothing (seen_cells t)
+    by (Some bytes) e = last_other (seen_cells t) k bytes ino (both (k.0 == ino) e)
 
 -- one of the inode is the last
-pub last_found : (cells left t : List ((ℕ × ℕ) × Option (List ℕ))) (ino : ℕ) (k : ℕ × ℕ) (o : Option (List ℕ)) → LastLeft cells left ino → left ≡ t ++ (k, o) ∷ [] → k.0 ≡ ino → is_some o ≡ true → Some k.1 ≡ last_block_of (seen cells) ino
+pub last_found : (cells left t : List ((ℕ × ℕ) × Option (List ℕ))) (ino : ℕ) (k : ℕ × ℕ) (o : Option (List ℕ)) → LastLeft cells left ino → left ≡ t ++ (k, o) ∷ [] → k.0 ≡ ino → is_some o ≡ true → Some k.1 ≡ last_block_of (seen_cells cells) ino
 last_found cells left t ino k o so is same h =
-    sym (by o h) ∙ sym (ap (λ z. last_block_of z ino) (seen_push t k o)) ∙ ap (λ z. last_block_of (seen z) ino) (sym is) ∙ so.last
+    sym (by o h) ∙ sym (ap (λ z. last_block_of z ino) (seen_push t k o)) ∙ ap (λ z. last_block_of (seen_cells z) ino) (sym is) ∙ so.last
   where
-    by : (p : Option (List ℕ)) → is_some p ≡ true → last_block_of (seen t ++ cons_option (option_map (λ w. (k, w)) p) []) ino ≡ Some k.1
+    by : (p : Option (List ℕ)) → is_some p ≡ true → last_block_of (seen_cells t ++ cons_option (option_map (λ w. (k, w)) p) []) ino ≡ Some k.1
     by None e = absurd (false≢true e)
-    by (Some bytes) e = last_this (seen t) k bytes ino same (all-seen (λ q. pair_cmp q k ≡ Less) t (below_last pair_cmp (keys_of t) k (front_order left t k o so.order is)))
+    by (Some bytes) e = last_this (seen_cells t) k bytes ino same (all-seen (λ q. pair_cmp q k ≡ Less) t (below_last pair_cmp (keys_of t) k (front_order left t k o so.order is)))
 
-pub last_ends : (cells left : List ((ℕ × ℕ) × Option (List ℕ))) (ino : ℕ) → LastLeft cells left ino → left ≡ [] → None ≡ last_block_of (seen cells) ino
-last_ends cells left ino so is = ap (λ z. last_block_of (seen z) ino) (sym is) ∙ so.last
+pub last_ends : (cells left : List ((ℕ × ℕ) × Option (List ℕ))) (ino : ℕ) → LastLeft cells left ino → left ≡ [] → None ≡ last_block_of (seen_cells cells) ino
+last_ends cells left ino so is = ap (λ z. last_block_of (seen_cells z) ino) (sym is) ∙ so.last
 
 pub shorter : {X : Type 0} (left t : List X) (e : X) → left ≡ t ++ e ∷ [] → length t < length left
 shorter left t e is = omega (arith, ap length is, length-append t (e ∷ []))

@@ -15,7 +15,7 @@ use Rattle.fs_model.specs.Proper.{ascends, IsInOrder}
 use Rattle.fs_laws.specs.Forgotten.{found_inode, forgotten_in_order, forgotten_twice}
 use Rattle.fs_laws.specs.Maps.{apart, missing_first, tail_ascends, key_cases}
 use Rattle.fs_laws.specs.Orders.{numbers}
-use Rattle.plain_backing.specs.Story.{IsStory, opened}
+use Rattle.plain_backing.specs.Story.{IsStory, opened_story}
 
 -- keys that are sorted ascend
 pub sorted_ascends : {K : Type 0} (cmp : K → K → Ordering) (keys : List K) → IsStrictlySortedBy cmp keys → ascends cmp keys ≡ true
@@ -58,7 +58,7 @@ not_found (Some inode) = by (inode.nlink == 0) refl
 forgotten_named : (tree : Tree) → IsInOrder tree → nameless (without_nameless tree) ≡ []
 forgotten_named tree h = none_found (without_nameless tree).inodes (forgotten_in_order tree h).inodes (λ q. ap has_no_name (found_inode tree q h) ∙ not_found (inode_at tree q))
 
-pub open_done : (tree : Tree) → IsInOrder tree → IsStory tree (opened tree)
+pub open_done : (tree : Tree) → IsInOrder tree → IsStory tree (opened_story tree)
 open_done tree h = record {
   in_order = h;
   three = refl;

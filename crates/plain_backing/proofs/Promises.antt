@@ -24,7 +24,7 @@ use Rattle.fs_model.specs.Settled.{IsCovered}
 use Rattle.space_sums.specs.Spaces.{AsksNoLess, HasRoom, IsAfterPage, IsAfterGroup, IsNoMore, grant_of, with_credits}
 use Rattle.plain_backing.specs.declared.numbers.Numbers.{Numbers}
 use Rattle.plain_backing.specs.Covering.{granted_need, leaf_count}
-use Rattle.plain_backing.specs.PlainBacking.{Covers, admitted, counted, ended_as, group_spent, outlook_with, page_spent, state_with, with_closed}
+use Rattle.plain_backing.specs.PlainBacking.{Covers, admitted, counted_call, ended_as, group_spent, outlook_with, page_spent, backing_state_with, with_closed}
 use Rattle.plain_backing.specs.Story.{Story}
 use Rattle.plain_backing.proofs.Covers.{bytes_grow, bytes_less, leaves_grow, leaves_less, weighed_more}
 
@@ -39,7 +39,7 @@ pub admit_keeps : {T : Type 0} (geo : RawGeometry) (tree : Tree) (s : Story) (ol
     → KeepsSure (outlook_with geo tree old s) (outlook_with geo tree new s)
 admit_keeps geo tree s old new space need X (Ok x) same ok err covered law =
     let S : Space → Type 0 = λ x. HasRoom geo (with_credits need.credits x) (grant_of need) in
-    let P : Numbers → Type 0 = λ n. Covers (state_with geo tree n s) in
+    let P : Numbers → Type 0 = λ n. Covers (backing_state_with geo tree n s) in
     record {
       sure = λ both. (
         ap (λ (n : Numbers). n.strike) ok.0 ∙ both.0,
@@ -49,7 +49,7 @@ admit_keeps geo tree s old new space need X (Ok x) same ok err covered law =
       strike = ap (λ (n : Numbers). Some n.strike) ok.0;
     }
 admit_keeps geo tree s old new space need X (Err x) same ok err covered law =
-    let P : Numbers → Type 0 = λ n. Covers (state_with geo tree n s) in
+    let P : Numbers → Type 0 = λ n. Covers (backing_state_with geo tree n s) in
     record {
       sure = λ both. (ap (λ (n : Numbers). n.strike) err ∙ both.0, subst P (sym err) both.1);
       spent = λ never. never;
@@ -97,19 +97,19 @@ page_bytes tree page fits =
 
 -- a page
 pub page_covers : (geo : RawGeometry) → IsGeometry geo → (tree after : Tree) (page : PageNode) (s t : Story) (old new : Numbers)
-    → after ≡ apply tree (page_group page) → (IsProper tree → FitsPage tree page) → 0 < old.credits → new ≡ page_spent (counted old)
+    → after ≡ apply tree (page_group page) → (IsProper tree → FitsPage tree page) → 0 < old.credits → new ≡ page_spent (counted_call old)
     → ((before later : Space) (grant : Need) → IsAfterPage before later → HasRoom geo before grant → HasRoom geo later grant)
-    → Covers (state_with geo tree old s) → Covers (state_with geo after new t)
+    → Covers (backing_state_with geo tree old s) → Covers (backing_state_with geo after new t)
 page_covers geo ranges tree after page s t old new put fits some spent law covers =
     let page_fits = fits covers.proper in
     let grown = bytes_grow tree (page_group page) in
     let paid = page_bytes tree page page_fits in
     let more = leaves_grow tree (page_group page) in
-    let P : Tree → Type 0 = λ x. Covers (state_with geo x new t) in
-    let Q : Numbers → Type 0 = λ n. Covers (state_with geo (apply tree (page_group page)) n t) in
+    let P : Tree → Type 0 = λ x. Covers (backing_state_with geo x new t) in
+    let Q : Numbers → Type 0 = λ n. Covers (backing_state_with geo (apply tree (page_group page)) n t) in
     subst P (sym put) (subst Q (sym spent) (record {
       proper = page_fits.proper;
-      room = law (space_in geo tree old) (space_in geo (apply tree (page_group page)) (page_spent (counted old))) (granted_need old.grant)
+      room = law (space_in geo tree old) (space_in geo (apply tree (page_group page)) (page_spent (counted_call old))) (granted_need old.grant)
           (record {
             bytes = omega (arith, grown, paid);
             credits = omega (arith, some);
@@ -123,9 +123,9 @@ page_covers geo ranges tree after page s t old new put fits some spent law cover
 
 -- a group
 pub group_covers : (geo : RawGeometry) → IsGeometry geo → (tree after : Tree) (group : List Change) (s t : Story) (old new : Numbers)
-    → after ≡ apply tree group → IsAdmitted (state_with geo tree old s) group → new ≡ group_spent (counted old) (length group)
+    → after ≡ apply tree group → IsAdmitted (backing_state_with geo tree old s) group → new ≡ group_spent (counted_call old) (length group)
     → ((before later : Space) (grant : Need) → IsAfterGroup grant before later → HasRoom geo before grant → IsCovered geo later)
-    → Covers (state_with geo tree old s) → Covers (state_with geo after new t)
+    → Covers (backing_state_with geo tree old s) → Covers (backing_state_with geo after new t)
 group_covers geo ranges tree after group s t old new put is spent law covers =
     let fits = is.paid covers.proper in
     let grown = bytes_grow tree group in
@@ -134,9 +134,9 @@ group_covers geo ranges tree after group s t old new put is spent law covers =
     let more = leaves_grow tree group in
     let N : Option Grant → Type 0 = λ g. HasRoom geo (space_in geo tree old) (granted_need g) in
     let room = subst N is.granted covers.room in
-    let P : Tree → Type 0 = λ x. Covers (state_with geo x new t) in
-    let Q : Numbers → Type 0 = λ n. Covers (state_with geo (apply tree group) n t) in
-    let later = law (space_in geo tree old) (space_in geo (apply tree group) (group_spent (counted old) (length group))) (granted_need (Some is.grant))
+    let P : Tree → Type 0 = λ x. Covers (backing_state_with geo x new t) in
+    let Q : Numbers → Type 0 = λ n. Covers (backing_state_with geo (apply tree group) n t) in
+    let later = law (space_in geo tree old) (space_in geo (apply tree group) (group_spent (counted_call old) (length group))) (granted_need (Some is.grant))
     (record {
       bytes = omega (arith, grown, paid);
       credits = refl;
@@ -153,33 +153,33 @@ group_covers geo ranges tree after group s t old new put is spent law covers =
 
 -- an inode without a name that goes
 pub drop_covers : (named : Bool) (geo : RawGeometry) (tree after : Tree) (ino : ℕ) (s t : Story) (old mid new : Numbers)
-    → after ≡ without_inode tree ino → new ≡ with_closed mid named → mid ≡ counted old → IsTrue (is_nameless tree ino)
+    → after ≡ without_inode tree ino → new ≡ with_closed mid named → mid ≡ counted_call old → IsTrue (is_nameless tree ino)
     → ((x : Tree) (n : ℕ) → IsProper x → IsTrue (is_nameless x n) → IsProper (without_inode x n))
     → ((before later : Space) (need : Need) → IsNoMore before later → HasRoom geo before need → HasRoom geo later need)
-    → Covers (state_with geo tree old s) → Covers (state_with geo after new t)
+    → Covers (backing_state_with geo tree old s) → Covers (backing_state_with geo after new t)
 drop_covers named geo tree after ino s t old mid new dropped closed counts nameless proper law covers =
     let less = bytes_less tree ino in
     let fewer = leaves_less tree ino in
     let weighed = covers.weighed in
-    let P : Tree → Type 0 = λ x. Covers (state_with geo x new t) in
-    let Q : Numbers → Type 0 = λ n. Covers (state_with geo (without_inode tree ino) n t) in
+    let P : Tree → Type 0 = λ x. Covers (backing_state_with geo x new t) in
+    let Q : Numbers → Type 0 = λ n. Covers (backing_state_with geo (without_inode tree ino) n t) in
     subst P (sym dropped) (subst Q (sym (closed ∙ ap (λ n. with_closed n named) counts)) (record {
       proper = proper tree ino covers.proper nameless;
-      room = law (space_in geo tree old) (space_in geo (without_inode tree ino) (with_closed (counted old) named)) (granted_need old.grant)
+      room = law (space_in geo tree old) (space_in geo (without_inode tree ino) (with_closed (counted_call old) named)) (granted_need old.grant)
           (record { bytes = omega (arith, less); credits = refl; weight = omega arith; index = refl; main = refl }) covers.room;
       weighed = omega (arith, fewer, weighed);
     }))
 
 -- the end of a commit
 pub end_covers : (geo : RawGeometry) (tree : Tree) (s t : Story) (old new : Numbers) (cmt_no index leaves : ℕ)
-    → new ≡ ended_as (counted old) cmt_no index → leaf_count tree ≤ leaves → leaves ≤ geo.fanout * index
+    → new ≡ ended_as (counted_call old) cmt_no index → leaf_count tree ≤ leaves → leaves ≤ geo.fanout * index
     → ((before later : Space) (need : Need) → IsNoMore before later → HasRoom geo before need → HasRoom geo later need)
-    → Covers (state_with geo tree old s) → Covers (state_with geo tree new t)
+    → Covers (backing_state_with geo tree old s) → Covers (backing_state_with geo tree new t)
 end_covers geo tree s t old new cmt_no index leaves ended all lowest law covers =
-    let Q : Numbers → Type 0 = λ n. Covers (state_with geo tree n t) in
+    let Q : Numbers → Type 0 = λ n. Covers (backing_state_with geo tree n t) in
     subst Q (sym ended) (record {
       proper = covers.proper;
-      room = law (space_in geo tree old) (space_in geo tree (ended_as (counted old) cmt_no index)) (granted_need old.grant)
+      room = law (space_in geo tree old) (space_in geo tree (ended_as (counted_call old) cmt_no index)) (granted_need old.grant)
           (record { bytes = omega arith; credits = refl; weight = omega arith; index = refl; main = refl }) covers.room;
       weighed = lightest geo.fanout (leaf_count tree) old.weight old.base index covers.weighed (let le = all in omega (arith, le, lowest));
     })

@@ -18,8 +18,8 @@ use Rattle.fs_model.specs.Proper.{ascends}
 use Rattle.fs_model.specs.Recovery.{Numbered, Head, IsRecovered, KeepsSynced, taken, placed, as_replayed, recovered}
 use Rattle.fs_model.specs.RecoveryLaws.{IsParted, joined, in_groups, in_heads, are_low, are_high, replayed, all_counts, counted, joined_with, high_with, long_with, recovered_again}
 use Rattle.fs_laws.specs.Forgotten.{apply_in_order, group_forgotten}
-use Rattle.plain_backing.specs.Story.{Story, IsStory, IsWhole, AreGiven, medium_of, numbered, put_at, failed_puts, with_all}
-use Rattle.plain_backing.specs.StoryLaws.{within_of, lower, low_joined}
+use Rattle.plain_backing.specs.Story.{Story, IsStory, HasAllGroups, AreGiven, medium_of, numbered, put_at, failed_puts, with_all}
+use Rattle.plain_backing.specs.StoryLaws.{heads_within, lower_mark, low_joined}
 
 -- the numbers that a group gets
 
@@ -73,7 +73,7 @@ placed_last m (first ∷ low) c h l =
 low_with : (sqnum : ℕ) (low : Numbered) (change : Change) → are_low sqnum low ≡ true → are_low (sqnum + 1) (low ++ (sqnum + 1, change) ∷ []) ≡ true
 low_with sqnum low change h =
     list_all-append (λ (c : ℕ × Change). nat_le c.0 (sqnum + 1)) low ((sqnum + 1, change) ∷ [])
-    ∙ and_from (are_low (sqnum + 1) low) (are_low (sqnum + 1) ((sqnum + 1, change) ∷ [])) (lower sqnum (sqnum + 1) low (omega arith) h) (and_from (nat_le (sqnum + 1) (sqnum + 1)) true (le-leb (sqnum + 1) (sqnum + 1) (omega arith)) refl)
+    ∙ and_from (are_low (sqnum + 1) low) (are_low (sqnum + 1) ((sqnum + 1, change) ∷ [])) (lower_mark sqnum (sqnum + 1) low (omega arith) h) (and_from (nat_le (sqnum + 1) (sqnum + 1)) true (le-leb (sqnum + 1) (sqnum + 1) (omega arith)) refl)
 
 numbered_placed : (sqnum : ℕ) (low : Numbered) (changes : List Change) → are_low sqnum low ≡ true → fold placed low (numbered sqnum changes) ≡ low ++ numbered sqnum changes
 numbered_placed sqnum low [] h = sym (append-nil low)
@@ -109,16 +109,16 @@ given_with sqnum last (head ∷ heads) zero group l h g =
     let p = and_parts (are_low sqnum (in_groups head.groups)) (list_all (λ (head : Head). are_low sqnum (in_groups head.groups)) heads) h in
     let one : are_low last (in_groups (group ∷ [])) ≡ true = ap (are_low last) (append-nil group) ∙ g in
     and_from (are_low last (in_groups (head.groups ++ group ∷ []))) (list_all (λ (head : Head). are_low last (in_groups head.groups)) heads)
-    (low_joined last head.groups (group ∷ []) (lower sqnum last (in_groups head.groups) l p.0) one) (given_more sqnum last heads l p.1)
+    (low_joined last head.groups (group ∷ []) (lower_mark sqnum last (in_groups head.groups) l p.0) one) (given_more sqnum last heads l p.1)
   where
     given_more : (sqnum last : ℕ) (heads : List Head) → sqnum ≤ last → AreGiven sqnum heads → AreGiven last heads
     given_more sqnum last [] l h = refl
     given_more sqnum last (head ∷ heads) l h =
         let p = and_parts (are_low sqnum (in_groups head.groups)) (list_all (λ (head : Head). are_low sqnum (in_groups head.groups)) heads) h in
-        and_from (are_low last (in_groups head.groups)) (list_all (λ (head : Head). are_low last (in_groups head.groups)) heads) (lower sqnum last (in_groups head.groups) l p.0) (given_more sqnum last heads l p.1)
+        and_from (are_low last (in_groups head.groups)) (list_all (λ (head : Head). are_low last (in_groups head.groups)) heads) (lower_mark sqnum last (in_groups head.groups) l p.0) (given_more sqnum last heads l p.1)
 given_with sqnum last (head ∷ heads) (suc at) group l h g =
     let p = and_parts (are_low sqnum (in_groups head.groups)) (list_all (λ (head : Head). are_low sqnum (in_groups head.groups)) heads) h in
-    and_from (are_low last (in_groups head.groups)) (list_all (λ (head : Head). are_low last (in_groups head.groups)) (with_group_at heads at group)) (lower sqnum last (in_groups head.groups) l p.0) (given_with sqnum last heads at group l p.1 g)
+    and_from (are_low last (in_groups head.groups)) (list_all (λ (head : Head). are_low last (in_groups head.groups)) (with_group_at heads at group)) (lower_mark sqnum last (in_groups head.groups) l p.0) (given_with sqnum last heads at group l p.1 g)
 
 parted_with : (s : Story) (at : ℕ) (changes : List Change) → IsParted s.mark s.sqnum s.before s.since → IsParted s.mark (put_at s at changes).sqnum s.before (put_at s at changes).since
 parted_with s at changes is =
@@ -180,7 +180,7 @@ pub named_started : (tree : Tree) (s : Story) → IsStory tree s → nameless s.
 named_started tree s is = ap nameless is.began ∙ replayed_named s.committed (in_heads s.before) is.named
 
 -- where the tree has all groups they lead to it
-pub whole_tree : (tree : Tree) (s : Story) → IsStory tree s → IsWhole s → without_nameless tree ≡ replayed s.started (in_heads (groups_of s.since))
+pub whole_tree : (tree : Tree) (s : Story) → IsStory tree s → HasAllGroups s → without_nameless tree ≡ replayed s.started (in_heads (groups_of s.since))
 whole_tree tree s is whole =
     is.left ∙ ap (λ counts. recovered s.started (taken s.since counts)) whole ∙ ap (recovered s.started) (all_taken s.since) ∙ recovered_replayed s.started (in_heads (groups_of s.since)) (named_started tree s is)
 
@@ -216,7 +216,7 @@ one_taken (head ∷ heads) zero group l = ap (λ rest. (group ++ []) ++ rest) (n
 one_taken (head ∷ heads) (suc at) group l = one_taken heads at group (omega (arith, l))
 
 -- a group whose numbers come next makes of the tree what its replay does
-with_one : (tree : Tree) (s : Story) (at : ℕ) (changes : List Change) → IsStory tree s → IsWhole s → at < 3
+with_one : (tree : Tree) (s : Story) (at : ℕ) (changes : List Change) → IsStory tree s → HasAllGroups s → at < 3
     → recovered s.started (taken (with_group_at s.since at (numbered s.sqnum changes)) (all_counts (with_group_at s.since at (numbered s.sqnum changes)))) ≡ apply (without_nameless tree) (map as_replayed changes)
 with_one tree s at changes is whole l =
     let group : Numbered = numbered s.sqnum changes in
@@ -239,7 +239,7 @@ with_one tree s at changes is whole l =
     counts_of [] = refl
     counts_of (head ∷ heads) = ap (λ n. suc n) (counts_of heads)
 
-pub put_done : (tree : Tree) (s : Story) (at : ℕ) (changes : List Change) → IsStory tree s → IsWhole s → at < 3 → all_revive_none tree changes ≡ true → IsStory (apply tree changes) (with_all (put_at s at changes))
+pub put_done : (tree : Tree) (s : Story) (at : ℕ) (changes : List Change) → IsStory tree s → HasAllGroups s → at < 3 → all_revive_none tree changes ≡ true → IsStory (apply tree changes) (with_all (put_at s at changes))
 put_done tree s at changes is whole l none =
     let group : Numbered = numbered s.sqnum changes in
     let failed = put_failed tree s at changes is in
@@ -251,6 +251,6 @@ put_done tree s at changes is whole l none =
       began = is.began;
       named = is.named;
       ordered = is.ordered;
-      keeps = all_keep (with_group_at s.since at group) (within_of (with_group_at s.since at group) s.counts failed.keeps);
+      keeps = all_keep (with_group_at s.since at group) (heads_within (with_group_at s.since at group) s.counts failed.keeps);
       left = group_forgotten changes tree is.in_order none ∙ sym (with_one tree s at changes is whole l);
     }

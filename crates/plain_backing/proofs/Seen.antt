@@ -13,7 +13,7 @@ use Rattle.std.specs.declared.cmp.Ordering.TheVariants.{Less, Equal, Greater}
 use Rattle.std.proofs.lemmas.Bool.{false≢true}
 use Rattle.std.proofs.lemmas.Map.Lookups.{CmpEqualImpliesEq}
 use Rattle.std.proofs.lemmas.Map.Keys.{sorted_head, sorted_tail}
-use Rattle.plain_backing.specs.Cells.{seen, has_cell, is_empty_cell, cleared}
+use Rattle.plain_backing.specs.Cells.{seen_cells, has_cell, is_empty_cell, cleared}
 
 -- each key is past k
 abbrev pub Above : {K : Type 0} → (K → K → Ordering) → K → List K → Type 0
@@ -41,53 +41,53 @@ remove-above cmp k [] h = refl
 remove-above cmp k (e ∷ es) h = rw h.0 (ap (λ xs. e ∷ xs) (remove-above cmp k es h.1))
 
 -- the keys that are seen are among the cells'
-pub all-seen : {K V : Type 0} (P : K → Type 0) (cells : List (K × Option V)) → AllByRecursion P (keys_of cells) → AllByRecursion P (keys_of (seen cells))
+pub all-seen : {K V : Type 0} (P : K → Type 0) (cells : List (K × Option V)) → AllByRecursion P (keys_of cells) → AllByRecursion P (keys_of (seen_cells cells))
 all-seen P [] h = tt
 all-seen {K} {V} P (c ∷ cells) h = by (all-seen P cells h.1) c.1
   where
-    by : AllByRecursion P (keys_of (seen cells)) → (o : Option V) → AllByRecursion P (keys_of (cons_option (option_map (λ w. (c.0, w)) o) (seen cells)))
+    by : AllByRecursion P (keys_of (seen_cells cells)) → (o : Option V) → AllByRecursion P (keys_of (cons_option (option_map (λ w. (c.0, w)) o) (seen_cells cells)))
     by more None = more
     by more (Some w) = (h.0, more)
 
-pub sorted-seen : {K V : Type 0} (cmp : K → K → Ordering) (cells : List (K × Option V)) → IsStrictlySortedBy cmp (keys_of cells) → IsStrictlySortedBy cmp (keys_of (seen cells))
+pub sorted-seen : {K V : Type 0} (cmp : K → K → Ordering) (cells : List (K × Option V)) → IsStrictlySortedBy cmp (keys_of cells) → IsStrictlySortedBy cmp (keys_of (seen_cells cells))
 unfolding IsStrictlySortedBy
 sorted-seen cmp [] s = tt
 sorted-seen {K} {V} cmp (c ∷ cells) s = by (all-seen (λ y. cmp c.0 y ≡ Less) cells s.0) (sorted-seen cmp cells s.1) c.1
   where
-    by : AllByRecursion (λ y. cmp c.0 y ≡ Less) (keys_of (seen cells)) → IsStrictlySortedBy cmp (keys_of (seen cells)) → (o : Option V) → IsStrictlySortedBy cmp (keys_of (cons_option (option_map (λ w. (c.0, w)) o) (seen cells)))
+    by : AllByRecursion (λ y. cmp c.0 y ≡ Less) (keys_of (seen_cells cells)) → IsStrictlySortedBy cmp (keys_of (seen_cells cells)) → (o : Option V) → IsStrictlySortedBy cmp (keys_of (cons_option (option_map (λ w. (c.0, w)) o) (seen_cells cells)))
     by above more None = more
     by above more (Some w) = (above, more)
 
 -- an empty cell that is taken out wasn't seen
-pub seen-remove_entry : {K V : Type 0} (test : K → Bool) (cells : List (K × Option V)) → lookup test cells ≡ Some None → seen (remove_entry test cells) ≡ seen cells
+pub seen-remove_entry : {K V : Type 0} (test : K → Bool) (cells : List (K × Option V)) → lookup test cells ≡ Some None → seen_cells (remove_entry test cells) ≡ seen_cells cells
 seen-remove_entry test [] h = refl
 seen-remove_entry {K} {V} test (c ∷ cells) h = by (seen-remove_entry test cells) (test c.0) c.1 h
   where
-    by : (lookup test cells ≡ Some None → seen (remove_entry test cells) ≡ seen cells) → (b : Bool) (o : Option V) → cond b (Some o) (lookup test cells) ≡ Some None
-        → seen (cond b cells ((c.0, o) ∷ remove_entry test cells)) ≡ cons_option (option_map (λ w. (c.0, w)) o) (seen cells)
+    by : (lookup test cells ≡ Some None → seen_cells (remove_entry test cells) ≡ seen_cells cells) → (b : Bool) (o : Option V) → cond b (Some o) (lookup test cells) ≡ Some None
+        → seen_cells (cond b cells ((c.0, o) ∷ remove_entry test cells)) ≡ cons_option (option_map (λ w. (c.0, w)) o) (seen_cells cells)
     by more true None h = refl
     by more true (Some w) h = absurd cc
     by more false o h = ap (cons_option (option_map (λ w. (c.0, w)) o)) (more h)
 
 -- an empty cell that is made isn't seen
-pub seen-insert_empty : {K V : Type 0} (cmp : K → K → Ordering) (cells : List (K × Option V)) (k : K) → lookup (is_at (cmp k)) cells ≡ None → seen (insert_entry cmp cells k None) ≡ seen cells
+pub seen-insert_empty : {K V : Type 0} (cmp : K → K → Ordering) (cells : List (K × Option V)) (k : K) → lookup (is_at (cmp k)) cells ≡ None → seen_cells (insert_entry cmp cells k None) ≡ seen_cells cells
 seen-insert_empty cmp [] k h = refl
 seen-insert_empty {K} {V} cmp (c ∷ cells) k h = by (seen-insert_empty cmp cells k) (cmp k c.0) h
   where
-    by : (lookup (is_at (cmp k)) cells ≡ None → seen (insert_entry cmp cells k None) ≡ seen cells) → (o : Ordering) → cond (is_eq o) (Some c.1) (lookup (is_at (cmp k)) cells) ≡ None
-        → seen (match_ordering o ((k, None) ∷ c ∷ cells) ((c.0, None) ∷ cells) (c ∷ insert_entry cmp cells k None)) ≡ seen (c ∷ cells)
+    by : (lookup (is_at (cmp k)) cells ≡ None → seen_cells (insert_entry cmp cells k None) ≡ seen_cells cells) → (o : Ordering) → cond (is_eq o) (Some c.1) (lookup (is_at (cmp k)) cells) ≡ None
+        → seen_cells (match_ordering o ((k, None) ∷ c ∷ cells) ((c.0, None) ∷ cells) (c ∷ insert_entry cmp cells k None)) ≡ seen_cells (c ∷ cells)
     by more Less h = refl
     by more Equal h = absurd cc
     by more Greater h = ap (cons_option (option_map (λ w. (c.0, w)) c.1)) (more h)
 
 -- what is seen at a key is what its cell holds
-pub lookup-seen : {K V : Type 0} {cmp : K → K → Ordering} → IsTotalOrder cmp → (cells : List (K × Option V)) (k : K) → IsStrictlySortedBy cmp (keys_of cells) → lookup (is_at (cmp k)) (seen cells) ≡ unwrap_or (lookup (is_at (cmp k)) cells) None
+pub lookup-seen : {K V : Type 0} {cmp : K → K → Ordering} → IsTotalOrder cmp → (cells : List (K × Option V)) (k : K) → IsStrictlySortedBy cmp (keys_of cells) → lookup (is_at (cmp k)) (seen_cells cells) ≡ unwrap_or (lookup (is_at (cmp k)) cells) None
 lookup-seen o [] k s = refl
 lookup-seen {K} {V} {cmp} o (c ∷ cells) k s =
-    by (lookup-seen o cells k (sorted_tail cmp c.0 (keys_of cells) s)) (λ e. lookup-above cmp k (seen cells) (all-seen (λ y. cmp k y ≡ Less) cells (above-same o k c.0 (keys_of cells) e (sorted_head cmp c.0 (keys_of cells) s)))) (cmp k c.0) refl c.1
+    by (lookup-seen o cells k (sorted_tail cmp c.0 (keys_of cells) s)) (λ e. lookup-above cmp k (seen_cells cells) (all-seen (λ y. cmp k y ≡ Less) cells (above-same o k c.0 (keys_of cells) e (sorted_head cmp c.0 (keys_of cells) s)))) (cmp k c.0) refl c.1
   where
-    by : lookup (is_at (cmp k)) (seen cells) ≡ unwrap_or (lookup (is_at (cmp k)) cells) None → (cmp k c.0 ≡ Equal → lookup (is_at (cmp k)) (seen cells) ≡ None) → (p : Ordering) → cmp k c.0 ≡ p → (x : Option V)
-        → lookup (is_at (cmp k)) (cons_option (option_map (λ w. (c.0, w)) x) (seen cells)) ≡ unwrap_or (cond (is_eq p) (Some x) (lookup (is_at (cmp k)) cells)) None
+    by : lookup (is_at (cmp k)) (seen_cells cells) ≡ unwrap_or (lookup (is_at (cmp k)) cells) None → (cmp k c.0 ≡ Equal → lookup (is_at (cmp k)) (seen_cells cells) ≡ None) → (p : Ordering) → cmp k c.0 ≡ p → (x : Option V)
+        → lookup (is_at (cmp k)) (cons_option (option_map (λ w. (c.0, w)) x) (seen_cells cells)) ≡ unwrap_or (cond (is_eq p) (Some x) (lookup (is_at (cmp k)) cells)) None
     by more none Less e None = more
     by more none Less e (Some w) = rw e more
     by more none Equal e None = none e
@@ -97,32 +97,32 @@ lookup-seen {K} {V} {cmp} o (c ∷ cells) k s =
 
 -- a value that is put into a cell is inserted
 pub seen-put : {K V : Type 0} {cmp : K → K → Ordering} → IsTotalOrder cmp → CmpEqualImpliesEq cmp → (cells : List (K × Option V)) (k : K) (v : V) → IsStrictlySortedBy cmp (keys_of cells) → has_cell cmp cells k ≡ true
-    → seen (set_value (is_at (cmp k)) cells (Some v)) ≡ insert_entry cmp (seen cells) k v
+    → seen_cells (set_value (is_at (cmp k)) cells (Some v)) ≡ insert_entry cmp (seen_cells cells) k v
 seen-put o exact [] k v s h = absurd (false≢true h)
 seen-put {K} {V} {cmp} o exact (c ∷ cells) k v s h =
     by (seen-put o exact cells k v (sorted_tail cmp c.0 (keys_of cells) s)) (sorted_head cmp c.0 (keys_of cells) s) (cmp k c.0) refl c.1 h
   where
-    by : (has_cell cmp cells k ≡ true → seen (set_value (is_at (cmp k)) cells (Some v)) ≡ insert_entry cmp (seen cells) k v) → Above cmp c.0 (keys_of cells) → (p : Ordering) → cmp k c.0 ≡ p → (x : Option V)
+    by : (has_cell cmp cells k ≡ true → seen_cells (set_value (is_at (cmp k)) cells (Some v)) ≡ insert_entry cmp (seen_cells cells) k v) → Above cmp c.0 (keys_of cells) → (p : Ordering) → cmp k c.0 ≡ p → (x : Option V)
         → is_some (cond (is_eq p) (Some x) (lookup (is_at (cmp k)) cells)) ≡ true
-        → seen (cond (is_eq p) ((c.0, Some v) ∷ cells) ((c.0, x) ∷ set_value (is_at (cmp k)) cells (Some v))) ≡ insert_entry cmp (cons_option (option_map (λ w. (c.0, w)) x) (seen cells)) k v
+        → seen_cells (cond (is_eq p) ((c.0, Some v) ∷ cells) ((c.0, x) ∷ set_value (is_at (cmp k)) cells (Some v))) ≡ insert_entry cmp (cons_option (option_map (λ w. (c.0, w)) x) (seen_cells cells)) k v
     by more above Less e x h = absurd (false≢true (sym (ap is_some (lookup-above cmp k cells (above-less o k c.0 (keys_of cells) e above))) ∙ h))
     by more above Equal e None h =
-        ap (λ (z : K). (z, v) ∷ seen cells) (sym (exact k c.0 e)) ∙ sym (insert-above cmp k v (seen cells) (all-seen (λ y. cmp k y ≡ Less) cells (above-same o k c.0 (keys_of cells) e above)))
+        ap (λ (z : K). (z, v) ∷ seen_cells cells) (sym (exact k c.0 e)) ∙ sym (insert-above cmp k v (seen_cells cells) (all-seen (λ y. cmp k y ≡ Less) cells (above-same o k c.0 (keys_of cells) e above)))
     by more above Equal e (Some w) h = rw e refl
     by more above Greater e None h = more h
     by more above Greater e (Some w) h = rw e (ap (λ xs. (c.0, w) ∷ xs) (more h))
 
 -- a cell that is emptied is removed
-pub seen-emptied : {K V : Type 0} {cmp : K → K → Ordering} → IsTotalOrder cmp → (cells : List (K × Option V)) (k : K) → IsStrictlySortedBy cmp (keys_of cells) → seen (set_value (is_at (cmp k)) cells None) ≡ remove_entry (is_at (cmp k)) (seen cells)
+pub seen-emptied : {K V : Type 0} {cmp : K → K → Ordering} → IsTotalOrder cmp → (cells : List (K × Option V)) (k : K) → IsStrictlySortedBy cmp (keys_of cells) → seen_cells (set_value (is_at (cmp k)) cells None) ≡ remove_entry (is_at (cmp k)) (seen_cells cells)
 seen-emptied o [] k s = refl
 seen-emptied {K} {V} {cmp} o (c ∷ cells) k s =
     by (seen-emptied o cells k (sorted_tail cmp c.0 (keys_of cells) s)) (sorted_head cmp c.0 (keys_of cells) s) (cmp k c.0) refl c.1
   where
-    by : seen (set_value (is_at (cmp k)) cells None) ≡ remove_entry (is_at (cmp k)) (seen cells) → Above cmp c.0 (keys_of cells) → (p : Ordering) → cmp k c.0 ≡ p → (x : Option V)
-        → seen (cond (is_eq p) ((c.0, None) ∷ cells) ((c.0, x) ∷ set_value (is_at (cmp k)) cells None)) ≡ remove_entry (is_at (cmp k)) (cons_option (option_map (λ w. (c.0, w)) x) (seen cells))
+    by : seen_cells (set_value (is_at (cmp k)) cells None) ≡ remove_entry (is_at (cmp k)) (seen_cells cells) → Above cmp c.0 (keys_of cells) → (p : Ordering) → cmp k c.0 ≡ p → (x : Option V)
+        → seen_cells (cond (is_eq p) ((c.0, None) ∷ cells) ((c.0, x) ∷ set_value (is_at (cmp k)) cells None)) ≡ remove_entry (is_at (cmp k)) (cons_option (option_map (λ w. (c.0, w)) x) (seen_cells cells))
     by more above Less e None = more
     by more above Less e (Some w) = rw e (ap (λ xs. (c.0, w) ∷ xs) more)
-    by more above Equal e None = sym (remove-above cmp k (seen cells) (all-seen (λ y. cmp k y ≡ Less) cells (above-same o k c.0 (keys_of cells) e above)))
+    by more above Equal e None = sym (remove-above cmp k (seen_cells cells) (all-seen (λ y. cmp k y ≡ Less) cells (above-same o k c.0 (keys_of cells) e above)))
     by more above Equal e (Some w) = rw e refl
     by more above Greater e None = more
     by more above Greater e (Some w) = rw e (ap (λ xs. (c.0, w) ∷ xs) more)
@@ -145,12 +145,12 @@ has-made true w o n e h = ap is_some e
 has-made false w o n e h = ap is_some e ∙ h
 
 -- cells that are emptied by a test of their keys are filtered
-pub seen-cleared : {K V : Type 0} (p : K → Bool) (cells : List (K × Option V)) → seen (cleared p cells) ≡ filter (λ e. not (p e.0)) (seen cells)
+pub seen-cleared : {K V : Type 0} (p : K → Bool) (cells : List (K × Option V)) → seen_cells (cleared p cells) ≡ filter (λ e. not (p e.0)) (seen_cells cells)
 seen-cleared p [] = refl
 seen-cleared {K} {V} p (c ∷ cells) = by (seen-cleared p cells) (p c.0) refl c.1
   where
-    by : seen (cleared p cells) ≡ filter (λ e. not (p e.0)) (seen cells) → (b : Bool) → p c.0 ≡ b → (x : Option V)
-        → cons_option (option_map (λ w. (c.0, w)) (cond b None x)) (seen (cleared p cells)) ≡ filter (λ e. not (p e.0)) (cons_option (option_map (λ w. (c.0, w)) x) (seen cells))
+    by : seen_cells (cleared p cells) ≡ filter (λ e. not (p e.0)) (seen_cells cells) → (b : Bool) → p c.0 ≡ b → (x : Option V)
+        → cons_option (option_map (λ w. (c.0, w)) (cond b None x)) (seen_cells (cleared p cells)) ≡ filter (λ e. not (p e.0)) (cons_option (option_map (λ w. (c.0, w)) x) (seen_cells cells))
     by more true e None = more
     by more true e (Some w) = rw e more
     by more false e None = more

@@ -15,8 +15,8 @@ use Rattle.fs_model.specs.Proper.{IsInOrder}
 use Rattle.fs_model.specs.Recovery.{Numbered, Head, IsRecovered, KeepsSynced, taken, recovered, as_replayed, by_number}
 use Rattle.fs_model.specs.RecoveryLaws.{AreHigh, WouldLeave, joined, in_groups, in_heads, are_high, are_low, replayed, all_counts, left_of_all}
 use Rattle.fs_laws.specs.Forgotten.{apply_in_order, forgotten_twice, dropped_forgotten, dropped_in_order}
-use Rattle.plain_backing.specs.Story.{Story, IsStory, IsWhole, AreGiven, medium_of, none_before, synced, begun, ended, is_idle}
-use Rattle.plain_backing.specs.StoryLaws.{within_of}
+use Rattle.plain_backing.specs.Story.{Story, IsStory, HasAllGroups, AreGiven, medium_of, none_before, synced_story, begun, ended_story, is_story_idle}
+use Rattle.plain_backing.specs.StoryLaws.{heads_within}
 use Rattle.plain_backing.proofs.Putting.{Left, named_started, whole_tree}
 
 -- heads with the same groups, of which as many are synced, or more
@@ -115,14 +115,14 @@ synced_keeps : (heads : List Head) → KeepsSynced (all_synced heads) (all_count
 synced_keeps [] = tt
 synced_keeps (head ∷ heads) = (omega arith, omega arith, synced_keeps heads)
 
-pub sync_whole : (s : Story) → IsWhole s → IsWhole (synced s)
+pub sync_whole : (s : Story) → HasAllGroups s → HasAllGroups (synced_story s)
 sync_whole s whole = whole ∙ sym (synced_counts s.since)
 
-pub sync_done : (tree : Tree) (s : Story) → IsStory tree s → IsWhole s → IsStory tree (synced s)
+pub sync_done : (tree : Tree) (s : Story) → IsStory tree s → HasAllGroups s → IsStory tree (synced_story s)
 sync_done tree s is whole =
     let parted = is.parted in
     let P : List ℕ → Type 0 = λ counts. KeepsSynced (all_synced s.since) counts in
-    let further = synced_further s.since (within_of s.since s.counts is.keeps) in
+    let further = synced_further s.since (heads_within s.since s.counts is.keeps) in
     record {
       in_order = is.in_order;
       three = synced_length s.since ∙ is.three;
@@ -135,9 +135,9 @@ sync_done tree s is whole =
       left = is.left ∙ ap (recovered s.started) (sym (further_taken s.since (all_synced s.since) s.counts further));
     }
 
-pub sync_left : (tree : Tree) (s : Story) (more : List (ℕ × List Change)) (left : Tree) → IsStory tree s → Left (medium_of (synced s)) more left → Left (medium_of s) more left
+pub sync_left : (tree : Tree) (s : Story) (more : List (ℕ × List Change)) (left : Tree) → IsStory tree s → Left (medium_of (synced_story s)) more left → Left (medium_of s) more left
 sync_left tree s more left is would =
-    further_left s.committed s.sqnum (joined s.before s.since) (joined s.before (all_synced s.since)) more left (further_joined s.before s.since (all_synced s.since) (synced_further s.since (within_of s.since s.counts is.keeps))) would
+    further_left s.committed s.sqnum (joined s.before s.since) (joined s.before (all_synced s.since)) more left (further_joined s.before s.since (all_synced s.since) (synced_further s.since (heads_within s.since s.counts is.keeps))) would
 
 not_less : (n : ℕ) → not (nat_lt n n) ≡ true
 not_less n = ap not (le-ltb n n (omega arith))
@@ -158,7 +158,7 @@ nothing_before [] h = refl
 nothing_before ([] ∷ before) h = nothing_before before h
 nothing_before ((group ∷ groups) ∷ before) h = absurd cc
 
-idle_start : (tree : Tree) (s : Story) → IsStory tree s → is_idle s ≡ true → s.started ≡ s.committed
+idle_start : (tree : Tree) (s : Story) → IsStory tree s → is_story_idle s ≡ true → s.started ≡ s.committed
 idle_start tree s is idle = is.began ∙ ap (replayed s.committed) (nothing_before s.before idle)
 
 begun_given : (sqnum : ℕ) (heads : List Head) → AreGiven sqnum (emptied heads)
@@ -177,7 +177,7 @@ begun_length : (heads : List Head) → length (emptied heads) ≡ length heads
 begun_length [] = refl
 begun_length (head ∷ heads) = ap (λ n. suc n) (begun_length heads)
 
-pub begin_done : (tree : Tree) (s : Story) → IsStory tree s → IsWhole s → is_idle s ≡ true → IsStory tree (begun s tree)
+pub begin_done : (tree : Tree) (s : Story) → IsStory tree s → HasAllGroups s → is_story_idle s ≡ true → IsStory tree (begun s tree)
 begin_done tree s is whole idle = record {
   in_order = is.in_order;
   three = begun_length s.since ∙ is.three;
@@ -201,11 +201,11 @@ begun_further ([] ∷ before) (head ∷ heads) n w h =
     let le = leb-true head.synced (length head.groups) p.0 in
     (append-nil head.groups, omega (arith, le), begun_further before heads (omega (arith, n)) p.1 h)
 
-pub begin_left : (tree : Tree) (s : Story) (more : List (ℕ × List Change)) (left : Tree) → IsStory tree s → is_idle s ≡ true → Left (medium_of (begun s tree)) more left → Left (medium_of s) more left
+pub begin_left : (tree : Tree) (s : Story) (more : List (ℕ × List Change)) (left : Tree) → IsStory tree s → is_story_idle s ≡ true → Left (medium_of (begun s tree)) more left → Left (medium_of s) more left
 begin_left tree s more left is idle would =
     let parted = is.parted in
     further_left s.committed s.sqnum (joined s.before s.since) (joined (groups_of s.since) (emptied s.since)) more left
-    (begun_further s.before s.since parted.long (within_of s.since s.counts is.keeps) idle) would
+    (begun_further s.before s.since parted.long (heads_within s.since s.counts is.keeps) idle) would
 
 pub begin_synced : (heads : List Head) → AreSynced (joined (groups_of heads) (emptied heads))
 begin_synced [] = refl
@@ -222,7 +222,7 @@ begin_counts (head ∷ heads) =
 
 -- its end
 
-pub end_done : (tree : Tree) (s : Story) → IsStory tree s → IsStory tree (ended s)
+pub end_done : (tree : Tree) (s : Story) → IsStory tree s → IsStory tree (ended_story s)
 end_done tree s is =
     let parted = is.parted in
     record {
@@ -247,7 +247,7 @@ none_joined (a ∷ b ∷ c ∷ []) n = ap (λ (x : Head). x ∷ joined ([] ∷ [
     none head = let e : 0 + head.synced ≡ head.synced = omega arith in ap (λ (n : ℕ). record { groups = head.groups; synced = n }) e
 none_joined (a ∷ b ∷ c ∷ d ∷ heads) n = absurd (omega (arith, n))
 
-pub end_left : (tree : Tree) (s : Story) (more : List (ℕ × List Change)) (left : Tree) → IsStory tree s → Left (medium_of (ended s)) more left → Left (medium_of s) more left
+pub end_left : (tree : Tree) (s : Story) (more : List (ℕ × List Change)) (left : Tree) → IsStory tree s → Left (medium_of (ended_story s)) more left → Left (medium_of s) more left
 end_left tree s more left is (heads, put, may) =
     let P : List Head → Type 0 = λ z. Puts s.sqnum z more heads in
     let Q : Tree → Type 0 = λ z. WouldLeave z s.sqnum s.since more left in

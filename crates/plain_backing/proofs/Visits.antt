@@ -7,12 +7,12 @@ use Rattle.std.specs.declared.ops.Bound.TheVariants.{Included}
 use Rattle.std.proofs.lemmas.Bool.{false≢true}
 use Rattle.std.proofs.lemmas.Bool.Decides.{eqb_tells}
 use Rattle.fs_model.specs.Files.{Blocks, pair_cmp}
-use Rattle.plain_backing.specs.Cells.{seen}
+use Rattle.plain_backing.specs.Cells.{seen_cells}
 use Rattle.plain_backing.proofs.Listing.{blocks_in}
 
 -- the blocks of an inode that cells show
 abbrev pub seen_of : ℕ → List ((ℕ × ℕ) × Option (List ℕ)) → Blocks
-seen_of ino cells = filter (λ stored. stored.0.0 == ino) (seen cells)
+seen_of ino cells = filter (λ stored. stored.0.0 == ino) (seen_cells cells)
 
 seen_between : (ino : ℕ) (test : ℕ × ℕ → Bool) → ((k : ℕ × ℕ) → k.0 ≡ ino → test k ≡ true) → (cells : List ((ℕ × ℕ) × Option (List ℕ))) → seen_of ino (filter (λ c. test c.0) cells) ≡ seen_of ino cells
 seen_between ino test inside [] = refl

@@ -18,8 +18,8 @@ use Rattle.std.proofs.lemmas.Bool.Decides.{eqb_tells, nat_tests}
 use Rattle.std.proofs.lemmas.Cmp.{eq_by_cmp_equiv}
 use Rattle.std.proofs.lemmas.List.Elements.{filter_agree, recursion_from_All}
 use Rattle.std.proofs.lemmas.Map.Views.{All-keys_from_lookup}
-use Rattle.plain_backing.specs.BlockWalk.{IsStartOf, IsAtMost, is_cut}
-use Rattle.plain_backing.specs.Cells.{seen, cleared}
+use Rattle.plain_backing.specs.BlockWalk.{IsStartOf, IsBlockAtMost, is_block_cut}
+use Rattle.plain_backing.specs.Cells.{seen_cells, cleared}
 use Rattle.fs_model.specs.Change.{cut_blocks}
 use Rattle.fs_model.specs.Cover.{block_bytes}
 use Rattle.fs_model.specs.Files.{pair_cmp}
@@ -61,21 +61,21 @@ past_start (Included a) ino q s h = let le = pair_le a q h in omega (arith, le, 
 past_start (Excluded a) ino q s h = let le = pair_le a q (less_le (pair_cmp a q) h) in omega (arith, le, s)
 past_start Unbounded ino q s h = absurd s
 
-at_most : (ino : ℕ) (e q : ℕ × ℕ) (number : Option ℕ) → ino ≤ e.0 → is_gt (pair_cmp e q) ≡ false → number ≡ cond (e.0 == ino) (Some e.1) None → q.0 ≡ ino → IsAtMost number q.1
+at_most : (ino : ℕ) (e q : ℕ × ℕ) (number : Option ℕ) → ino ≤ e.0 → is_gt (pair_cmp e q) ≡ false → number ≡ cond (e.0 == ino) (Some e.1) None → q.0 ≡ ino → IsBlockAtMost number q.1
 at_most ino e q number past below is same =
     let le = pair_le e q below in
     let here : (e.0 == ino) ≡ true = grind (arith, nat_tests) in
     let there : number ≡ Some e.1 = is ∙ ap (λ b. cond b (Some e.1) None) here in
-    let P : Option ℕ → Type 0 = λ o. IsAtMost o q.1 in
+    let P : Option ℕ → Type 0 = λ o. IsBlockAtMost o q.1 in
     subst P (sym there) (le.1 (omega (arith, le.0)))
 
 -- the first entry past a start is the least
 pub least_some : {X : Type 0} (start : Bound (ℕ × ℕ)) (ino : ℕ) (es r t : List ((ℕ × ℕ) × X)) (e : (ℕ × ℕ) × X) (number : Option ℕ) → IsStartOf start ino → r ≡ e ∷ t → IfSome (slice_get r 0) (λ f. IsInRange pair_cmp start Unbounded f.0 × (lookup (is_at (pair_cmp f.0)) es ≡ Some f.1))
     → ((q : ℕ × ℕ) → IsInRange pair_cmp start Unbounded q → IsSome (lookup (is_at (pair_cmp q)) es) → IfSome (slice_get r 0) (λ f. IsLeBy pair_cmp f.0 q))
     → number ≡ cond (e.0.0 == ino) (Some e.0.1) None
-    → AllByRecursion (λ k. k.0 ≡ ino → is_from_start pair_cmp start k ≡ true → IsAtMost number k.1) (keys_of es)
+    → AllByRecursion (λ k. k.0 ≡ ino → is_from_start pair_cmp start k ≡ true → IsBlockAtMost number k.1) (keys_of es)
 least_some {X} start ino es r t e number s is first least told =
-    let P : ℕ × ℕ → Type 0 = λ k. k.0 ≡ ino → is_from_start pair_cmp start k ≡ true → IsAtMost number k.1 in
+    let P : ℕ × ℕ → Type 0 = λ k. k.0 ≡ ino → is_from_start pair_cmp start k ≡ true → IsBlockAtMost number k.1 in
     let F : List ((ℕ × ℕ) × X) → Type 0 = λ l. IfSome (slice_get l 0) (λ f. IsInRange pair_cmp start Unbounded f.0 × (lookup (is_at (pair_cmp f.0)) es ≡ Some f.1)) in
     let past = past_start start ino e.0 s (subst F is first).0.0 in
     recursion_from_All P (keys_of es) (All-keys_from_lookup (eq_by_cmp_equiv pair_cmp-total) P es (λ q found same from.
@@ -139,7 +139,7 @@ is_before (Some block) number = nat_lt number block
 
 -- what is cut by then
 abbrev pub cut_before : ℕ → ℕ → Option ℕ → ℕ × ℕ → Bool
-cut_before ino size at key = is_cut ino size key && is_before at key.1
+cut_before ino size at key = is_block_cut ino size key && is_before at key.1
 
 pub at_key : (ino block : ℕ) (k : ℕ × ℕ) → is_at (pair_cmp (ino, block)) k ≡ ((k.0 == ino) && (k.1 == block))
 at_key ino block k = by (nat_cmp ino k.0) (ranks ino k.0) (nat_cmp block k.1) (ranks block k.1)
@@ -160,7 +160,7 @@ and_false true = refl
 and_false false = refl
 
 -- what lies behind the block at which a walk is isn't passed
-not_passed : (r : Option ℕ) (n : ℕ) → IsAtMost r n → is_before r n ≡ false
+not_passed : (r : Option ℕ) (n : ℕ) → IsBlockAtMost r n → is_before r n ≡ false
 not_passed None n h = absurd h
 not_passed (Some k) n h = grind (arith, nat_tests)
 
@@ -169,7 +169,7 @@ passed ino block None n h l = refl
 passed ino block (Some k) n h l = let m = after_less ino block k h in grind (arith, nat_tests)
 
 -- a walk's step over a block that is cut, at one key
-step_cut : (ino size block : ℕ) (r : Option ℕ) → size ≤ 4096 * block → IfSome r (λ k. is_from_start pair_cmp (Excluded (ino, block)) (ino, k) ≡ true) → (k : ℕ × ℕ) → (k.0 ≡ ino → is_from_start pair_cmp (Excluded (ino, block)) k ≡ true → IsAtMost r k.1)
+step_cut : (ino size block : ℕ) (r : Option ℕ) → size ≤ 4096 * block → IfSome r (λ k. is_from_start pair_cmp (Excluded (ino, block)) (ino, k) ≡ true) → (k : ℕ × ℕ) → (k.0 ≡ ino → is_from_start pair_cmp (Excluded (ino, block)) k ≡ true → IsBlockAtMost r k.1)
     → (cut_before ino size (Some block) k || is_at (pair_cmp (ino, block)) k) ≡ cut_before ino size r k
 step_cut ino size block r cut next k least = rw at_key (elim (eqb_tells k.0 ino) [
   | inr other ↦ rw other.0 refl
@@ -202,7 +202,7 @@ step_cut ino size block r cut next k least = rw at_key (elim (eqb_tells k.0 ino)
     of false = refl
 
 -- and over one that is not
-step_kept : (ino size block : ℕ) (r : Option ℕ) → 4096 * block < size → IfSome r (λ k. is_from_start pair_cmp (Excluded (ino, block)) (ino, k) ≡ true) → (k : ℕ × ℕ) → (k.0 ≡ ino → is_from_start pair_cmp (Excluded (ino, block)) k ≡ true → IsAtMost r k.1)
+step_kept : (ino size block : ℕ) (r : Option ℕ) → 4096 * block < size → IfSome r (λ k. is_from_start pair_cmp (Excluded (ino, block)) (ino, k) ≡ true) → (k : ℕ × ℕ) → (k.0 ≡ ino → is_from_start pair_cmp (Excluded (ino, block)) k ≡ true → IsBlockAtMost r k.1)
     → cut_before ino size (Some block) k ≡ cut_before ino size r k
 step_kept ino size block r kept next k least = elim (eqb_tells k.0 ino) [
   | inr other ↦ rw other.0 refl
@@ -222,7 +222,7 @@ step_kept ino size block r kept next k least = elim (eqb_tells k.0 ino) [
 ]
 
 -- nothing is cut before a walk begins
-begin_at : (ino size first : ℕ) (r : Option ℕ) → first ≤ size / 4096 → (k : ℕ × ℕ) → (k.0 ≡ ino → is_from_start pair_cmp (Included (ino, first)) k ≡ true → IsAtMost r k.1) → cut_before ino size r k ≡ false
+begin_at : (ino size first : ℕ) (r : Option ℕ) → first ≤ size / 4096 → (k : ℕ × ℕ) → (k.0 ≡ ino → is_from_start pair_cmp (Included (ino, first)) k ≡ true → IsBlockAtMost r k.1) → cut_before ino size r k ≡ false
 begin_at ino size first r low k least = elim (eqb_tells k.0 ino) [
   | inr other ↦ rw other.0 refl
   | inl same ↦ rw same.0 (elim (cases_lt k.1 first) [
@@ -238,13 +238,13 @@ all_map P Q f [] h = tt
 all_map P Q f (k ∷ ks) h = (f k h.0, all_map P Q f ks h.1)
 
 pub begun : {V : Type 0} (old : List ((ℕ × ℕ) × Option V)) (ino size first : ℕ) (r : Option ℕ) → first ≤ size / 4096
-    → AllByRecursion (λ k. k.0 ≡ ino → is_from_start pair_cmp (Included (ino, first)) k ≡ true → IsAtMost r k.1) (keys_of old) → old ≡ cleared (cut_before ino size r) old
+    → AllByRecursion (λ k. k.0 ≡ ino → is_from_start pair_cmp (Included (ino, first)) k ≡ true → IsBlockAtMost r k.1) (keys_of old) → old ≡ cleared (cut_before ino size r) old
 begun old ino size first r low least =
-    sym (cleared-none (cut_before ino size r) old (all_map (λ k. k.0 ≡ ino → is_from_start pair_cmp (Included (ino, first)) k ≡ true → IsAtMost r k.1) (λ k. cut_before ino size r k ≡ false) (begin_at ino size first r low) (keys_of old) least))
+    sym (cleared-none (cut_before ino size r) old (all_map (λ k. k.0 ≡ ino → is_from_start pair_cmp (Included (ino, first)) k ≡ true → IsBlockAtMost r k.1) (λ k. cut_before ino size r k ≡ false) (begin_at ino size first r low) (keys_of old) least))
 
 pub passed_cut : {V : Type 0} (old now new : List ((ℕ × ℕ) × Option V)) (ino size block : ℕ) (r : Option ℕ) → size ≤ 4096 * block → now ≡ cleared (cut_before ino size (Some block)) old
     → IsStrictlySortedBy pair_cmp (keys_of now) → new ≡ set_value (is_at (pair_cmp (ino, block))) now None
-    → IfSome r (λ k. is_from_start pair_cmp (Excluded (ino, block)) (ino, k) ≡ true) → AllByRecursion (λ k. k.0 ≡ ino → is_from_start pair_cmp (Excluded (ino, block)) k ≡ true → IsAtMost r k.1) (keys_of new)
+    → IfSome r (λ k. is_from_start pair_cmp (Excluded (ino, block)) (ino, k) ≡ true) → AllByRecursion (λ k. k.0 ≡ ino → is_from_start pair_cmp (Excluded (ino, block)) k ≡ true → IsBlockAtMost r k.1) (keys_of new)
     → new ≡ cleared (cut_before ino size r) old
 passed_cut {V} old now new ino size block r cut so sorted put next least =
     let keys : keys_of now ≡ keys_of old = ap keys_of so ∙ keys-cleared (cut_before ino size (Some block)) old in
@@ -252,35 +252,35 @@ passed_cut {V} old now new ino size block r cut so sorted put next least =
     let test : ℕ × ℕ → Bool = λ y. cut_before ino size (Some block) y || is_at (pair_cmp (ino, block)) y in
     let one : new ≡ cleared test old = put ∙ ap (λ z. set_value (is_at (pair_cmp (ino, block))) z None) so ∙ put-cleared pair_cmp-total (cut_before ino size (Some block)) old (ino, block) order in
     let same : keys_of new ≡ keys_of old = ap keys_of one ∙ keys-cleared test old in
-    let P : ℕ × ℕ → Type 0 = λ k. k.0 ≡ ino → is_from_start pair_cmp (Excluded (ino, block)) k ≡ true → IsAtMost r k.1 in
+    let P : ℕ × ℕ → Type 0 = λ k. k.0 ≡ ino → is_from_start pair_cmp (Excluded (ino, block)) k ≡ true → IsBlockAtMost r k.1 in
     one ∙ cleared-agree test (cut_before ino size r) old (all_map P (λ k. test k ≡ cut_before ino size r k) (step_cut ino size block r cut next) (keys_of old) (subst (AllByRecursion P) same least))
 
 pub passed_kept : {V : Type 0} (old now : List ((ℕ × ℕ) × Option V)) (ino size block : ℕ) (r : Option ℕ) → 4096 * block < size → now ≡ cleared (cut_before ino size (Some block)) old
-    → IfSome r (λ k. is_from_start pair_cmp (Excluded (ino, block)) (ino, k) ≡ true) → AllByRecursion (λ k. k.0 ≡ ino → is_from_start pair_cmp (Excluded (ino, block)) k ≡ true → IsAtMost r k.1) (keys_of now)
+    → IfSome r (λ k. is_from_start pair_cmp (Excluded (ino, block)) (ino, k) ≡ true) → AllByRecursion (λ k. k.0 ≡ ino → is_from_start pair_cmp (Excluded (ino, block)) k ≡ true → IsBlockAtMost r k.1) (keys_of now)
     → now ≡ cleared (cut_before ino size r) old
 passed_kept {V} old now ino size block r kept so next least =
     let keys : keys_of now ≡ keys_of old = ap keys_of so ∙ keys-cleared (cut_before ino size (Some block)) old in
-    let P : ℕ × ℕ → Type 0 = λ k. k.0 ≡ ino → is_from_start pair_cmp (Excluded (ino, block)) k ≡ true → IsAtMost r k.1 in
+    let P : ℕ × ℕ → Type 0 = λ k. k.0 ≡ ino → is_from_start pair_cmp (Excluded (ino, block)) k ≡ true → IsBlockAtMost r k.1 in
     so ∙ cleared-agree (cut_before ino size (Some block)) (cut_before ino size r) old (all_map P (λ k. cut_before ino size (Some block) k ≡ cut_before ino size r k) (step_kept ino size block r kept next) (keys_of old) (subst (AllByRecursion P) keys least))
 
 -- at its end all is cut that is past the size
-pub all_cut : (old now : List ((ℕ × ℕ) × Option (List ℕ))) (ino size : ℕ) → now ≡ cleared (cut_before ino size None) old → seen now ≡ cut_blocks (seen old) ino size
+pub all_cut : (old now : List ((ℕ × ℕ) × Option (List ℕ))) (ino size : ℕ) → now ≡ cleared (cut_before ino size None) old → seen_cells now ≡ cut_blocks (seen_cells old) ino size
 all_cut old now ino size so =
-    ap seen so ∙ seen-cleared (cut_before ino size None) old
-    ∙ filter_agree (λ e. not (cut_before ino size None e.0)) (λ e. not (is_cut ino size e.0)) (λ e. ap not (and_true (is_cut ino size e.0))) (seen old)
+    ap seen_cells so ∙ seen-cleared (cut_before ino size None) old
+    ∙ filter_agree (λ e. not (cut_before ino size None e.0)) (λ e. not (is_block_cut ino size e.0)) (λ e. ap not (and_true (is_block_cut ino size e.0))) (seen_cells old)
 
 -- what a walk has passed is cut, and its bytes are counted
 pub record WalkedSoFar (old now : List ((ℕ × ℕ) × Option (List ℕ))) (ino size : ℕ) (at : Option ℕ) (freed : ℕ) : Type 0 where
   pub cells : now ≡ cleared (cut_before ino size at) old
-  pub counted : sum_by block_bytes (values_of (seen now)) + freed ≡ sum_by block_bytes (values_of (seen old))
+  pub counted : sum_by block_bytes (values_of (seen_cells now)) + freed ≡ sum_by block_bytes (values_of (seen_cells old))
 
 at_block : (old now : List ((ℕ × ℕ) × Option (List ℕ))) (ino size block freed : ℕ) (at : Option ℕ) → WalkedSoFar old now ino size at freed → at ≡ Some block → now ≡ cleared (cut_before ino size (Some block)) old
 at_block old now ino size block freed at so is = let P : Option ℕ → Type 0 = λ o. now ≡ cleared (cut_before ino size o) old in subst P is so.cells
 
 -- a step over a block that is cut
 pub walked_put : (old now new : List ((ℕ × ℕ) × Option (List ℕ))) (ino size block freed got more : ℕ) (at r : Option ℕ) (held : Option (List ℕ)) → WalkedSoFar old now ino size at freed → at ≡ Some block → size ≤ 4096 * block
-    → IsStrictlySortedBy pair_cmp (keys_of now) → new ≡ set_value (is_at (pair_cmp (ino, block))) now None → held ≡ lookup (is_at (pair_cmp (ino, block))) (seen now) → got ≡ unwrap_or (option_map block_bytes held) 0 → more ≡ freed + got
-    → IfSome r (λ k. is_from_start pair_cmp (Excluded (ino, block)) (ino, k) ≡ true) → AllByRecursion (λ k. k.0 ≡ ino → is_from_start pair_cmp (Excluded (ino, block)) k ≡ true → IsAtMost r k.1) (keys_of new)
+    → IsStrictlySortedBy pair_cmp (keys_of now) → new ≡ set_value (is_at (pair_cmp (ino, block))) now None → held ≡ lookup (is_at (pair_cmp (ino, block))) (seen_cells now) → got ≡ unwrap_or (option_map block_bytes held) 0 → more ≡ freed + got
+    → IfSome r (λ k. is_from_start pair_cmp (Excluded (ino, block)) (ino, k) ≡ true) → AllByRecursion (λ k. k.0 ≡ ino → is_from_start pair_cmp (Excluded (ino, block)) k ≡ true → IsBlockAtMost r k.1) (keys_of new)
     → WalkedSoFar old new ino size r more
 walked_put old now new ino size block freed got more at r held so is cut sorted put there gone sum next least =
     let counts = drop_counts pair_cmp-total block_bytes now new (ino, block) held sorted put there in
@@ -289,20 +289,20 @@ walked_put old now new ino size block freed got more at r held so is cut sorted 
 
 -- a step over one that is not
 pub walked_past : (old now new : List ((ℕ × ℕ) × Option (List ℕ))) (ino size block freed more : ℕ) (at r : Option ℕ) → WalkedSoFar old now ino size at freed → at ≡ Some block → 4096 * block < size → new ≡ now → more ≡ freed
-    → IfSome r (λ k. is_from_start pair_cmp (Excluded (ino, block)) (ino, k) ≡ true) → AllByRecursion (λ k. k.0 ≡ ino → is_from_start pair_cmp (Excluded (ino, block)) k ≡ true → IsAtMost r k.1) (keys_of new)
+    → IfSome r (λ k. is_from_start pair_cmp (Excluded (ino, block)) (ino, k) ≡ true) → AllByRecursion (λ k. k.0 ≡ ino → is_from_start pair_cmp (Excluded (ino, block)) k ≡ true → IsBlockAtMost r k.1) (keys_of new)
     → WalkedSoFar old new ino size r more
 walked_past old now new ino size block freed more at r so is kept same sum next least =
-    let P : List ((ℕ × ℕ) × Option (List ℕ)) → Type 0 = λ z. AllByRecursion (λ k. k.0 ≡ ino → is_from_start pair_cmp (Excluded (ino, block)) k ≡ true → IsAtMost r k.1) (keys_of z) in
+    let P : List ((ℕ × ℕ) × Option (List ℕ)) → Type 0 = λ z. AllByRecursion (λ k. k.0 ≡ ino → is_from_start pair_cmp (Excluded (ino, block)) k ≡ true → IsBlockAtMost r k.1) (keys_of z) in
     record {
       cells = same ∙ passed_kept old now ino size block r kept (at_block old now ino size block freed at so is) next (subst P same least);
       counted = rw (same, sum) so.counted;
     }
 
 pub walk_begins : (old : List ((ℕ × ℕ) × Option (List ℕ))) (ino size first : ℕ) (r : Option ℕ) → first ≤ size / 4096
-    → AllByRecursion (λ k. k.0 ≡ ino → is_from_start pair_cmp (Included (ino, first)) k ≡ true → IsAtMost r k.1) (keys_of old) → WalkedSoFar old old ino size r 0
+    → AllByRecursion (λ k. k.0 ≡ ino → is_from_start pair_cmp (Included (ino, first)) k ≡ true → IsBlockAtMost r k.1) (keys_of old) → WalkedSoFar old old ino size r 0
 walk_begins old ino size first r low least = record { cells = begun old ino size first r low least; counted = omega arith }
 
-pub walk_ends : (old now : List ((ℕ × ℕ) × Option (List ℕ))) (ino size freed : ℕ) (at : Option ℕ) → WalkedSoFar old now ino size at freed → at ≡ None → (seen now ≡ cut_blocks (seen old) ino size) × (keys_of now ≡ keys_of old)
+pub walk_ends : (old now : List ((ℕ × ℕ) × Option (List ℕ))) (ino size freed : ℕ) (at : Option ℕ) → WalkedSoFar old now ino size at freed → at ≡ None → (seen_cells now ≡ cut_blocks (seen_cells old) ino size) × (keys_of now ≡ keys_of old)
 walk_ends old now ino size freed at so is =
     let P : Option ℕ → Type 0 = λ o. now ≡ cleared (cut_before ino size o) old in
     (all_cut old now ino size (subst P is so.cells), ap keys_of so.cells ∙ keys-cleared (cut_before ino size at) old)

@@ -11,10 +11,10 @@ IsStartOf (Excluded key) ino = key.0 ≡ ino
 IsStartOf Unbounded ino = ⊥
 
 -- there is a number, and it is at most n
-abbrev pub IsAtMost : Option ℕ → ℕ → Type 0
-IsAtMost None n = ⊥
-IsAtMost (Some k) n = k ≤ n
+abbrev pub IsBlockAtMost : Option ℕ → ℕ → Type 0
+IsBlockAtMost None n = ⊥
+IsBlockAtMost (Some k) n = k ≤ n
 
 -- whether a block is of this inode and begins at this size or past it
-abbrev pub is_cut : ℕ → ℕ → ℕ × ℕ → Bool
-is_cut ino size key = (key.0 == ino) && nat_le size (4096 * key.1)
+abbrev pub is_block_cut : ℕ → ℕ → ℕ × ℕ → Bool
+is_block_cut ino size key = (key.0 == ino) && nat_le size (4096 * key.1)

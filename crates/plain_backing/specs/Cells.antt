@@ -7,16 +7,16 @@ use Rattle.std.specs.Map.{lookup}
 use Rattle.std.specs.BTreeMap.{is_at}
 
 -- the values that cells hold, by key
-abbrev pub seen : {K V : Type 0} → List (K × Option V) → List (K × V)
-seen cells = filter_map (λ c. option_map (λ v. (c.0, v)) c.1) cells
+abbrev pub seen_cells : {K V : Type 0} → List (K × Option V) → List (K × V)
+seen_cells cells = filter_map (λ c. option_map (λ v. (c.0, v)) c.1) cells
 
 -- whether a key has a cell, be it empty
 abbrev pub has_cell : {K V : Type 0} → (K → K → Ordering) → List (K × Option V) → K → Bool
 has_cell cmp cells key = is_some (lookup (is_at (cmp key)) cells)
 
 -- a key that had a cell has one still
-abbrev pub Keeps : {K V : Type 0} → (K → K → Ordering) → List (K × Option V) → List (K × Option V) → Type 0
-Keeps {K} cmp old new = (key : K) → has_cell cmp old key ≡ true → has_cell cmp new key ≡ true
+abbrev pub KeepsCells : {K V : Type 0} → (K → K → Ordering) → List (K × Option V) → List (K × Option V) → Type 0
+KeepsCells {K} cmp old new = (key : K) → has_cell cmp old key ≡ true → has_cell cmp new key ≡ true
 
 -- whether a cell is there and empty
 abbrev pub is_empty_cell : {V : Type 0} → Option (Option V) → Bool

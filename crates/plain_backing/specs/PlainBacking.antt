@@ -17,15 +17,15 @@ use Rattle.fs_model.specs.Cover.{tree_bytes}
 use Rattle.fs_model.specs.Files.{Tree}
 use Rattle.fs_model.specs.Journal.{Journal}
 use Rattle.plain_backing.specs.Covering.{IsCovering}
-use Rattle.plain_backing.specs.Story.{Story, medium_of, opened}
+use Rattle.plain_backing.specs.Story.{Story, medium_of, opened_story}
 
 -- nothing of an index is ever left to write
 abbrev pub journal_of : Numbers → Story → Journal
 journal_of n s = record { running = n.running; left = 0; nodes = n.nodes; later = n.later; medium = Some (medium_of s) }
 
 -- all that there is to say of a tree with these numbers and this story: nothing is held, and collection never gains
-abbrev pub state_with : RawGeometry → Tree → Numbers → Story → BackingState
-state_with geo tree n s = record {
+abbrev pub backing_state_with : RawGeometry → Tree → Numbers → Story → BackingState
+backing_state_with geo tree n s = record {
   geometry = geo;
   orphan_limit = n.orphan_limit;
   closed = n.closed;
@@ -39,8 +39,8 @@ state_with geo tree n s = record {
   faults = n.faults;
 }
 
-abbrev pub state_of : PlainBacking → BackingState
-state_of b = state_with (raw_of b.geo) b.tree b.numbers b.story.value
+abbrev pub backing_state_of : PlainBacking → BackingState
+backing_state_of b = backing_state_with (raw_of b.geo) b.tree b.numbers b.story.value
 
 -- all that was promised has room
 abbrev pub Covers : BackingState → Type 0
@@ -48,14 +48,14 @@ Covers state = IsCovering state.geometry state.tree state.space state.grant
 
 -- it is sure while no failing call is set and all that was promised has room, and never spent
 abbrev pub outlook_with : RawGeometry → Tree → Numbers → Story → Outlook
-outlook_with geo tree n s = record { sure = (n.strike ≡ 0) × Covers (state_with geo tree n s); spent = ⊥; strike = Some n.strike }
+outlook_with geo tree n s = record { sure = (n.strike ≡ 0) × Covers (backing_state_with geo tree n s); spent = ⊥; strike = Some n.strike }
 
 abbrev pub outlook_of : PlainBacking → Outlook
 outlook_of b = outlook_with (raw_of b.geo) b.tree b.numbers b.story.value
 
 -- a call that doesn't fail brings the one that does nearer
-abbrev pub counted : Numbers → Numbers
-counted n = record n { strike = n.strike - 1 }
+abbrev pub counted_call : Numbers → Numbers
+counted_call n = record n { strike = n.strike - 1 }
 
 -- the mode after a fault
 abbrev pub faulted : Mode → ℕ → Mode
@@ -75,7 +75,7 @@ new_state geo tree space orphan_room mode = record {
   tree = tree;
   space = record space { used = tree_bytes tree; held = 0 };
   grant = None;
-  journal = record { running = None; left = 0; nodes = 0; later = 0; medium = Some (medium_of (opened tree)) };
+  journal = record { running = None; left = 0; nodes = 0; later = 0; medium = Some (medium_of (opened_story tree)) };
   victim = false;
   contents = None;
   mode = mode;
@@ -91,16 +91,16 @@ abbrev pub plus : ℕ → ℕ → ℕ
 plus a b = min (a + b) 18446744073709551615
 
 -- so many nodes were put
-abbrev pub with_nodes : Numbers → ℕ → Numbers
-with_nodes n nodes = record n { weight = n.weight + nodes; nodes = plus n.nodes nodes; later = plus n.later nodes }
+abbrev pub with_nodes_put : Numbers → ℕ → Numbers
+with_nodes_put n nodes = record n { weight = n.weight + nodes; nodes = plus n.nodes nodes; later = plus n.later nodes }
 
 -- a credit is spent on a page
 abbrev pub page_spent : Numbers → Numbers
-page_spent n = with_nodes (record n { credits = n.credits - 1 }) 2
+page_spent n = with_nodes_put (record n { credits = n.credits - 1 }) 2
 
 -- the grant is spent on a group of so many nodes
 abbrev pub group_spent : Numbers → ℕ → Numbers
-group_spent n nodes = with_nodes (record n { grant = None }) nodes
+group_spent n nodes = with_nodes_put (record n { grant = None }) nodes
 
 -- a commit runs, of the next number; no orphan was closed since its start
 abbrev pub begun : Numbers → Numbers
@@ -115,7 +115,7 @@ abbrev pub ended_as : Numbers → ℕ → ℕ → Numbers
 ended_as n cmt_no index = record n { running = None; ended = cmt_no; nodes = n.later; weight = min n.weight (max n.base index) }
 
 -- a changing call that isn't done: it is the one that fails, or the store is read-only
-abbrev pub IsRefused : Numbers → Numbers → StoreFault → Type 0
-IsRefused old new Memory = ⊥
-IsRefused old new (Volume count) = (new ≡ failed old) × (old.strike ≡ 1) × (old.mode ≡ ReadWrite) × (count ≡ new.faults)
-IsRefused old new (IsReadOnly cause) = (new ≡ old) × (old.mode ≡ ReadOnly cause)
+abbrev pub IsChangeRefused : Numbers → Numbers → StoreFault → Type 0
+IsChangeRefused old new Memory = ⊥
+IsChangeRefused old new (Volume count) = (new ≡ failed old) × (old.strike ≡ 1) × (old.mode ≡ ReadWrite) × (count ≡ new.faults)
+IsChangeRefused old new (IsReadOnly cause) = (new ≡ old) × (old.mode ≡ ReadOnly cause)

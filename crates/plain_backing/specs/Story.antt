@@ -36,8 +36,8 @@ abbrev pub none_before : List (List Numbered)
 none_before = [] ∷ [] ∷ [] ∷ []
 
 -- the story of a tree on which nothing was put
-abbrev pub opened : Tree → Story
-opened tree = record { committed = without_nameless tree; before = none_before; started = without_nameless tree; since = replicate 3 no_groups; counts = replicate 3 0; mark = 0; sqnum = 0 }
+abbrev pub opened_story : Tree → Story
+opened_story tree = record { committed = without_nameless tree; before = none_before; started = without_nameless tree; since = replicate 3 no_groups; counts = replicate 3 0; mark = 0; sqnum = 0 }
 
 -- changes with the next numbers
 abbrev pub numbered : ℕ → List Change → Numbered
@@ -66,20 +66,20 @@ abbrev pub with_puts : Story → List (ℕ × List Change) → Story
 with_puts s puts = with_all (failed_puts s puts)
 
 -- all is synced
-abbrev pub synced : Story → Story
-synced s = record s { since = map (λ (head : Head). record { groups = head.groups; synced = length head.groups }) s.since }
+abbrev pub synced_story : Story → Story
+synced_story s = record s { since = map (λ (head : Head). record { groups = head.groups; synced = length head.groups }) s.since }
 
 -- a commit begins on this tree, where none runs
 abbrev pub begun : Story → Tree → Story
 begun s tree = record { committed = s.committed; before = groups_of s.since; started = without_nameless tree; since = emptied s.since; counts = all_counts (emptied s.since); mark = s.sqnum; sqnum = s.sqnum }
 
 -- the commit ends
-abbrev pub ended : Story → Story
-ended s = record s { committed = s.started; before = none_before }
+abbrev pub ended_story : Story → Story
+ended_story s = record s { committed = s.started; before = none_before }
 
 -- whether nothing was put before the groups since
-abbrev pub is_idle : Story → Bool
-is_idle s = list_all is_empty s.before
+abbrev pub is_story_idle : Story → Bool
+is_story_idle s = list_all is_empty s.before
 
 -- each number was given
 abbrev pub AreGiven : ℕ → List Head → Type 0
@@ -98,5 +98,5 @@ pub record IsStory (tree : Tree) (s : Story) : Type 0 where
   pub left : without_nameless tree ≡ recovered s.started (taken s.since s.counts)
 
 -- the tree has all groups
-abbrev pub IsWhole : Story → Type 0
-IsWhole s = s.counts ≡ all_counts s.since
+abbrev pub HasAllGroups : Story → Type 0
+HasAllGroups s = s.counts ≡ all_counts s.since

@@ -27,13 +27,13 @@ pub story_prop : Coded Tree → (tree : Tree) (s : Story) → IsProp (IsStory tr
 story_prop code tree s = let keeps = keeps_prop s.since s.counts in hlevel (props, code, keeps)
 
 -- counts that keep what is synced show that no more is synced than there is
-pub within_of : (heads : List Head) (counts : List ℕ) → KeepsSynced heads counts → AreWithin heads
-within_of [] counts k = refl
-within_of (head ∷ heads) [] k = absurd k
-within_of (head ∷ heads) (count ∷ counts) k =
+pub heads_within : (heads : List Head) (counts : List ℕ) → KeepsSynced heads counts → AreWithin heads
+heads_within [] counts k = refl
+heads_within (head ∷ heads) [] k = absurd k
+heads_within (head ∷ heads) (count ∷ counts) k =
     let low = k.0 in
     let high = k.1 in
-    and_from (nat_le head.synced (length head.groups)) (list_all (λ (head : Head). nat_le head.synced (length head.groups)) heads) (le-leb head.synced (length head.groups) (omega (arith, low, high))) (within_of heads counts k.2)
+    and_from (nat_le head.synced (length head.groups)) (list_all (λ (head : Head). nat_le head.synced (length head.groups)) heads) (le-leb head.synced (length head.groups) (omega (arith, low, high))) (heads_within heads counts k.2)
 
 pub joined_long : (before : List (List Numbered)) (heads : List Head) → length heads ≡ length before → length (joined before heads) ≡ length heads
 joined_long [] [] n = refl
@@ -52,12 +52,12 @@ joined_within (groups ∷ before) (head ∷ heads) w =
     (le-leb (length groups + head.synced) (length (groups ++ head.groups)) (omega (arith, le, long))) (joined_within before heads p.1)
 
 -- numbers below one are below a greater one
-pub lower : (mark sqnum : ℕ) (changes : Numbered) → mark ≤ sqnum → are_low mark changes ≡ true → are_low sqnum changes ≡ true
-lower mark sqnum [] l h = refl
-lower mark sqnum (c ∷ changes) l h =
+pub lower_mark : (mark sqnum : ℕ) (changes : Numbered) → mark ≤ sqnum → are_low mark changes ≡ true → are_low sqnum changes ≡ true
+lower_mark mark sqnum [] l h = refl
+lower_mark mark sqnum (c ∷ changes) l h =
     let p = and_parts (nat_le c.0 mark) (are_low mark changes) h in
     let below = leb-true c.0 mark p.0 in
-    and_from (nat_le c.0 sqnum) (are_low sqnum changes) (le-leb c.0 sqnum (omega (arith, l, below))) (lower mark sqnum changes l p.1)
+    and_from (nat_le c.0 sqnum) (are_low sqnum changes) (le-leb c.0 sqnum (omega (arith, l, below))) (lower_mark mark sqnum changes l p.1)
 
 -- the numbers of groups behind groups
 pub low_joined : (sqnum : ℕ) (first second : List Numbered) → are_low sqnum (in_groups first) ≡ true → are_low sqnum (in_groups second) ≡ true → are_low sqnum (in_groups (first ++ second)) ≡ true
@@ -72,7 +72,7 @@ joined_given mark sqnum (groups ∷ before) (head ∷ heads) l low given =
     let p = and_parts (are_low mark (in_groups groups)) (list_all (λ (groups : List Numbered). are_low mark (in_groups groups)) before) low in
     let q = and_parts (are_low sqnum (in_groups head.groups)) (list_all (λ (head : Head). are_low sqnum (in_groups head.groups)) heads) given in
     and_from (are_low sqnum (in_groups (groups ++ head.groups))) (list_all (λ (head : Head). are_low sqnum (in_groups head.groups)) (joined before heads))
-    (low_joined sqnum groups head.groups (lower mark sqnum (in_groups groups) l p.0) q.0) (joined_given mark sqnum before heads l p.1 q.1)
+    (low_joined sqnum groups head.groups (lower_mark mark sqnum (in_groups groups) l p.0) q.0) (joined_given mark sqnum before heads l p.1 q.1)
 
 -- the journal that is told is one of this tree
 pub story_journal : (tree : Tree) (s : Story) → IsStory tree s → IsJournalOf tree (medium_of s)
@@ -81,7 +81,7 @@ story_journal tree s is =
     let since : IsRecovered s.started s.since (without_nameless tree) = record { counts = s.counts; synced = is.keeps; tree_is = is.left } in
     record {
       three = joined_long s.before s.since parted.long ∙ is.three;
-      synced = joined_within s.before s.since (within_of s.since s.counts is.keeps);
+      synced = joined_within s.before s.since (heads_within s.since s.counts is.keeps);
       given = joined_given s.mark s.sqnum s.before s.since parted.above parted.low is.given;
       named = is.named;
       ordered = is.ordered;

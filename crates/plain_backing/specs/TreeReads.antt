@@ -9,6 +9,6 @@ abbrev pub has_block : Blocks → ℕ → ℕ → Bool
 has_block blocks ino block = is_some (lookup (is_at (pair_cmp (ino, block))) blocks)
 
 -- an inode has a block of this number, and none of a greater one
-pub record IsLast (blocks : Blocks) (ino last : ℕ) : Type 0 where
+pub record IsGreatestBlock (blocks : Blocks) (ino last : ℕ) : Type 0 where
   pub there : has_block blocks ino last ≡ true
   pub greatest : (block : ℕ) → has_block blocks ino block ≡ true → block ≤ last

@@ -7,7 +7,7 @@ ghost use Rattle.fs_model.specs.declared.backing_answers.StoreFault.TheVariants.
 ghost use Rattle.fs_model.specs.Backing.{page_group};
 ghost use Rattle.fs_model.specs.Cover.{tree_bytes};
 ghost use Rattle.plain_backing.specs.Spending.{is_spent};
-ghost use Rattle.plain_backing.specs.Story.{IsStory, IsWhole, is_idle};
+ghost use Rattle.plain_backing.specs.Story.{IsStory, HasAllGroups, is_story_idle};
 ghost use Rattle.plain_backing.specs.StoryLaws.{story_prop};
 
 use crate::Tree;
@@ -51,8 +51,8 @@ pub struct PlainBacking {
     ghost later_of: { numbers.later ≤ numbers.nodes },
     ghost unspent: { is_spent numbers.mode ≡ false },
     ghost told: { IsStory tree story.value } by { story_prop tree-code tree story.value },
-    ghost whole: { numbers.mode ≡ ReadWrite → IsWhole story.value },
-    ghost idle: { numbers.running ≡ None → is_idle story.value ≡ true },
+    ghost whole: { numbers.mode ≡ ReadWrite → HasAllGroups story.value },
+    ghost idle: { numbers.running ≡ None → is_story_idle story.value ≡ true },
 }
 
 impl PlainBacking {
@@ -61,7 +61,7 @@ impl PlainBacking {
     ghost use Rattle.ubifs_base.specs.RawOf.{raw_of};
     ghost use Rattle.fs_model.specs.Backing.{IsSmall};
     ghost use Rattle.plain_backing.specs.Spending.{is_spent};
-    ghost use Rattle.plain_backing.specs.PlainBacking.{state_of, outlook_of, new_state};
+    ghost use Rattle.plain_backing.specs.PlainBacking.{backing_state_of, outlook_of, new_state};
 
     /// A backing of this tree, whose LEBs and weight are those of the space. `orphan_room` is how many orphans it takes. It
     /// is read-only from the start if the mode says so, but not for a number that is used up.
@@ -77,7 +77,7 @@ impl PlainBacking {
         requires main { space.main ≡ main_lebs (raw_of geo) }
         requires credits { space.credits ≡ 0 }
         requires unspent { is_spent mode ≡ false }
-        ensures state { IfOk result (λ backing. state_of backing ≡ new_state (raw_of geo) tree space orphan_room mode) }
+        ensures state { IfOk result (λ backing. backing_state_of backing ≡ new_state (raw_of geo) tree space orphan_room mode) }
         ensures strike { IfOk result (λ backing. (outlook_of backing).strike ≡ Some 0) }
     {
         tree.show_order();
@@ -112,7 +112,7 @@ impl PlainBacking {
     /// Makes a call fail: the one of this number, counted from now on over the calls that may answer that the volume
     /// failed, the first being 1. No other call fails; 0 makes none fail.
     pub fn fail_call(&mut self, call: u64)
-        ensures state { state_of self.new ≡ state_of self.old }
+        ensures state { backing_state_of self.new ≡ backing_state_of self.old }
         ensures strike { (outlook_of self.new).strike ≡ Some call }
     {
         self.numbers.strike = call;
@@ -120,7 +120,7 @@ impl PlainBacking {
 
     /// Gives the tree back. Takes no memory.
     pub fn into_tree(self) -> Tree
-        ensures { result ≡ (state_of self).tree }
+        ensures { result ≡ (backing_state_of self).tree }
     {
         self.tree
     }
@@ -160,11 +160,11 @@ fn fill_with(out: &mut [u8], bytes: &[u8])
 
 impl Backing for PlainBacking {
     ghost use Rattle.std.proofs.Common.{refl};
-    ghost use Rattle.plain_backing.specs.PlainBacking.{state_of, outlook_of};
+    ghost use Rattle.plain_backing.specs.PlainBacking.{backing_state_of, outlook_of};
     ghost use Rattle.plain_backing.specs.PlainBackingLaws.{small_of};
     ghost use Rattle.plain_backing.specs.StoryLaws.{story_journal};
 
-    ghost state = { state_of };
+    ghost state = { backing_state_of };
 
     ghost outlook = { outlook_of };
 

@@ -4,8 +4,8 @@ ghost use Rattle.std.specs.Prelude.{◌≡◌, ◌+◌, ◌^◌, ◌<◌, ◌==�
 ghost use Rattle.std.specs.BTreeMap.Range.{is_from_start};
 ghost use Rattle.std.specs.List.{AllByRecursion};
 ghost use Rattle.std.specs.Map.{keys_of, values_of};
-ghost use Rattle.plain_backing.specs.Cells.{seen};
-ghost use Rattle.plain_backing.specs.BlockWalk.{IsStartOf, IsAtMost};
+ghost use Rattle.plain_backing.specs.Cells.{seen_cells};
+ghost use Rattle.plain_backing.specs.BlockWalk.{IsStartOf, IsBlockAtMost};
 ghost use Rattle.fs_model.specs.Change.{cut_blocks};
 ghost use Rattle.fs_model.specs.Cover.{block_bytes};
 ghost use Rattle.fs_model.specs.Files.{pair_cmp};
@@ -25,7 +25,7 @@ fn next_block(
 ) -> Option<u32>
     requires { IsStartOf start ino }
     ensures some { IfSome result (λ block. is_from_start pair_cmp start (ino, block) ≡ true) }
-    ensures least { AllByRecursion (λ k. k.0 ≡ ino → is_from_start pair_cmp start k ≡ true → IsAtMost result k.1) (keys_of map.now.entries) }
+    ensures least { AllByRecursion (λ k. k.0 ≡ ino → is_from_start pair_cmp start k ≡ true → IsBlockAtMost result k.1) (keys_of map.now.entries) }
 {
     match map.range((start, Bound::Unbounded)).next() {
         Some((key, _)) => number_of(*key, ino),
@@ -47,10 +47,10 @@ pub(crate) fn clear_blocks(
     ino: u32,
     size: u64,
 ) -> u64
-    requires { sum_by block_bytes (values_of (seen map.old.entries)) < 2 ^ 64 }
-    ensures cut { seen map.new.entries ≡ cut_blocks (seen map.old.entries) ino size }
+    requires { sum_by block_bytes (values_of (seen_cells map.old.entries)) < 2 ^ 64 }
+    ensures cut { seen_cells map.new.entries ≡ cut_blocks (seen_cells map.old.entries) ino size }
     ensures keys { keys_of map.new.entries ≡ keys_of map.old.entries }
-    ensures freed { sum_by block_bytes (values_of (seen map.new.entries)) + result ≡ sum_by block_bytes (values_of (seen map.old.entries)) }
+    ensures freed { sum_by block_bytes (values_of (seen_cells map.new.entries)) + result ≡ sum_by block_bytes (values_of (seen_cells map.old.entries)) }
 {
     let first = (size / BLOCK_SIZE).min(u32::MAX as u64) as u32;
     let mut freed = 0;
@@ -67,7 +67,7 @@ pub(crate) fn clear_blocks(
 
 /// Takes out the empty cells of an inode's blocks. Nothing that is seen changes. Takes no memory.
 pub(crate) fn sweep_blocks(map: &mut BTreeMap<(u32, u32), Option<Bytes>>, ino: u32)
-    ensures same { seen map.new.entries ≡ seen map.old.entries }
+    ensures same { seen_cells map.new.entries ≡ seen_cells map.old.entries }
 {
     let mut at = next_block(map, Bound::Included((ino, 0)), ino);
     while let Some(block) = at {

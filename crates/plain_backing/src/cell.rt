@@ -6,7 +6,7 @@ ghost use Rattle.std.specs.Option.{option_copied};
 ghost use Rattle.std.specs.List.Sorted.{IsStrictlySortedBy};
 ghost use Rattle.std.specs.Map.{lookup, keys_of, set_value};
 ghost use Rattle.std.specs.BTreeMap.{is_at};
-ghost use Rattle.plain_backing.specs.Cells.{seen, has_cell, is_empty_cell, Keeps};
+ghost use Rattle.plain_backing.specs.Cells.{seen_cells, has_cell, is_empty_cell, KeepsCells};
 
 use std::collections::BTreeMap;
 use std::mem::replace;
@@ -17,8 +17,8 @@ pub(crate) fn make_cell<K: Ord + Drop, V: Drop>(
     map: &mut BTreeMap<K, Option<V>>,
     key: K,
 ) -> Result<(), Memory>
-    ensures same { seen map.new.entries ≡ seen map.old.entries }
-    ensures keeps { Keeps K.cmp map.old.entries map.new.entries }
+    ensures same { seen_cells map.new.entries ≡ seen_cells map.old.entries }
+    ensures keeps { KeepsCells K.cmp map.old.entries map.new.entries }
     ensures made { OnOk result (has_cell K.cmp map.new.entries key ≡ true) }
 {
     if map.contains_key(&key) {
@@ -38,7 +38,7 @@ pub(crate) fn put<K: Ord + Drop, V: Drop>(
     value: Option<V>,
 ) -> Option<V>
     ensures cells { map.new.entries ≡ set_value (is_at (K.cmp key.now)) map.old.entries value }
-    ensures old { result ≡ lookup (is_at (K.cmp key.now)) (seen map.old.entries) }
+    ensures old { result ≡ lookup (is_at (K.cmp key.now)) (seen_cells map.old.entries) }
     ensures ordered { IsStrictlySortedBy K.cmp (keys_of map.old.entries) }
 {
     match map.get_mut(key) {
@@ -49,7 +49,7 @@ pub(crate) fn put<K: Ord + Drop, V: Drop>(
 
 /// Takes the cell of a key out where it is empty. Nothing that is seen changes. Takes no memory.
 pub(crate) fn sweep<K: Ord + Drop, V: Drop>(map: &mut BTreeMap<K, Option<V>>, key: &K)
-    ensures same { seen map.new.entries ≡ seen map.old.entries }
+    ensures same { seen_cells map.new.entries ≡ seen_cells map.old.entries }
 {
     if is_empty(map, key) {
         map.remove(key);
@@ -71,7 +71,7 @@ pub(crate) fn held<'a, K: Ord + Drop, V: Drop>(
     map: &'a BTreeMap<K, Option<V>>,
     key: &K,
 ) -> Option<&'a V>
-    ensures { option_copied result ≡ lookup (is_at (K.cmp key.now)) (seen map.now.entries) }
+    ensures { option_copied result ≡ lookup (is_at (K.cmp key.now)) (seen_cells map.now.entries) }
 {
     // Its proof knows from this that the keys are in order.
     let _len = map.len();

@@ -3,7 +3,7 @@
 ghost use Rattle.std.specs.Prelude.{◌≡◌, ◌+◌, ◌^◌, ◌<◌, IfOk, reverse, sum_by};
 ghost use Rattle.std.specs.List.{AllByRecursion};
 ghost use Rattle.fs_model.specs.Change.{apply};
-ghost use Rattle.plain_backing.specs.TreeCells.{tree_of, set_bytes, IsCounted, HasRoom};
+ghost use Rattle.plain_backing.specs.TreeCells.{tree_of_cells, set_bytes, AreCellsCounted, HasCellRoom};
 
 use crate::cell::sweep;
 use crate::node_bytes::{block_bytes, inode_bytes, name_bytes};
@@ -24,11 +24,11 @@ pub(crate) fn prepare(
     changes: &[Change],
 ) -> Result<Vec<Change>, Memory>
     requires { cells.old.bytes < 2 ^ 40 }
-    ensures tree { tree_of cells.new ≡ tree_of cells.old }
+    ensures tree { tree_of_cells cells.new ≡ tree_of_cells cells.old }
     ensures bytes { cells.new.bytes ≡ cells.old.bytes }
     ensures orphans { cells.new.orphans ≡ cells.old.orphans }
     ensures copies { IfOk result (λ copies. reverse copies.items ≡ changes.now) }
-    ensures room { IfOk result (λ copies. AllByRecursion (HasRoom cells.new) copies.items) }
+    ensures room { IfOk result (λ copies. AllByRecursion (HasCellRoom cells.new) copies.items) }
     ensures fits { IfOk result (λ copies. cells.old.bytes + sum_by set_bytes copies.items < 2 ^ 40) }
 {
     let mut copies = Vec::with_capacity(alloc, changes.len())?;
@@ -99,11 +99,11 @@ fn push_key(
 
 /// Makes changes whose cells are there, the last one first. Takes no memory.
 pub(crate) fn make_all(cells: &mut TreeCells, mut copies: Vec<Change>)
-    requires room { AllByRecursion (HasRoom cells.old) copies.items }
+    requires room { AllByRecursion (HasCellRoom cells.old) copies.items }
     requires fits { cells.old.bytes + sum_by set_bytes copies.items < 2 ^ 40 }
-    requires counted { IsCounted cells.old }
-    ensures tree { tree_of cells.new ≡ apply (tree_of cells.old) (reverse copies.items) }
-    ensures counted { IsCounted cells.new }
+    requires counted { AreCellsCounted cells.old }
+    ensures tree { tree_of_cells cells.new ≡ apply (tree_of_cells cells.old) (reverse copies.items) }
+    ensures counted { AreCellsCounted cells.new }
     ensures few { cells.new.bytes < 2 ^ 40 }
 {
     while let Some(change) = copies.pop() {
@@ -113,7 +113,7 @@ pub(crate) fn make_all(cells: &mut TreeCells, mut copies: Vec<Change>)
 
 /// Takes out the empty cells that changes may have left. Nothing that is seen changes. Takes no memory.
 pub(crate) fn sweep_all(cells: &mut TreeCells, keys: &[(u32, OrderedName)], changes: &[Change])
-    ensures tree { tree_of cells.new ≡ tree_of cells.old }
+    ensures tree { tree_of_cells cells.new ≡ tree_of_cells cells.old }
     ensures bytes { cells.new.bytes ≡ cells.old.bytes }
     ensures orphans { cells.new.orphans ≡ cells.old.orphans }
 {

@@ -5,7 +5,7 @@ ghost use Rattle.ubifs_base.specs.Areas.{main_lebs};
 ghost use Rattle.ubifs_base.specs.RawOf.{raw_of};
 ghost use Rattle.fs_model.specs.Backing.{IsModest, IsSmall};
 ghost use Rattle.fs_model.specs.Cover.{needed, room_for};
-ghost use Rattle.plain_backing.specs.PlainBacking.{counted, failed, IsRefused, admitted, with_nodes, page_spent, group_spent, begun, with_closed, ended_as};
+ghost use Rattle.plain_backing.specs.PlainBacking.{counted_call, failed, IsChangeRefused, admitted, with_nodes_put, page_spent, group_spent, begun, with_closed, ended_as};
 ghost use Rattle.std.specs.List.{list_any};
 ghost use Rattle.fs_model.specs.Orphan.{nameless};
 ghost use Rattle.fs_model.specs.declared.backing_answers.Mode.TheVariants.{ReadWrite};
@@ -20,7 +20,7 @@ use ubifs_base::{Geometry, Memory};
 
 /// Counts a call that may fail, and fails it where it is the one.
 pub(crate) fn count_call(numbers: &mut Numbers) -> Result<(), StoreFault>
-    ensures ok { OnOk result ((numbers.new ≡ counted numbers.old) × (numbers.old.strike ≢ 1)) }
+    ensures ok { OnOk result ((numbers.new ≡ counted_call numbers.old) × (numbers.old.strike ≢ 1)) }
     ensures err { OnErr result ((numbers.new ≡ failed numbers.old) × (numbers.old.strike ≡ 1)) }
     ensures told { IfErr result (λ fault. fault ≡ Volume numbers.new.faults) }
     ensures faults { numbers.old.faults ≤ numbers.new.faults }
@@ -42,8 +42,8 @@ pub(crate) fn count_call(numbers: &mut Numbers) -> Result<(), StoreFault>
 
 /// The same of a call that changes the store, which is refused where it is read-only.
 pub(crate) fn changing_call(numbers: &mut Numbers) -> Result<(), StoreFault>
-    ensures ok { OnOk result ((numbers.new ≡ counted numbers.old) × (numbers.old.strike ≢ 1) × (numbers.old.mode ≡ ReadWrite)) }
-    ensures told { IfErr result (λ fault. IsRefused numbers.old numbers.new fault) }
+    ensures ok { OnOk result ((numbers.new ≡ counted_call numbers.old) × (numbers.old.strike ≢ 1) × (numbers.old.mode ≡ ReadWrite)) }
+    ensures told { IfErr result (λ fault. IsChangeRefused numbers.old numbers.new fault) }
     ensures faults { numbers.old.faults ≤ numbers.new.faults }
 {
     if let Mode::ReadOnly { cause } = numbers.mode {
@@ -94,7 +94,7 @@ pub(crate) fn has_weight_for(numbers: &Numbers, nodes: usize) -> bool
 /// Counts nodes that were put.
 pub(crate) fn count_nodes(numbers: &mut Numbers, nodes: usize)
     requires { numbers.old.weight + nodes < 2 ^ 40 }
-    ensures { numbers.new ≡ with_nodes numbers.old nodes }
+    ensures { numbers.new ≡ with_nodes_put numbers.old nodes }
 {
     let nodes = nodes as u64;
     numbers.weight += nodes;

@@ -3,7 +3,7 @@
 ghost use Rattle.std.specs.Prelude.{◌≡◌, ◌∷◌, []};
 ghost use Rattle.fs_model.specs.Backing.{page_puts};
 ghost use Rattle.fs_model.specs.Journal.{base_head};
-ghost use Rattle.plain_backing.specs.Story.{opened, failed_puts, lost_by, with_all, synced, begun, ended};
+ghost use Rattle.plain_backing.specs.Story.{opened_story, failed_puts, lost_by, with_all, synced_story, begun, ended_story};
 
 use crate::Tree;
 use fs_model::{Group, PageNode, StoreFault};
@@ -18,16 +18,16 @@ pub(crate) struct Story {
 
 impl Model for Story {
     ghost use Rattle.std.specs.Prelude.{[]};
-    ghost use Rattle.plain_backing.specs.Story.{Story as StoryTold, opened};
+    ghost use Rattle.plain_backing.specs.Story.{Story as StoryTold, opened_story};
 
     ghost Value = { StoryTold };
 
-    ghost view = { λ _. opened (record { inodes = []; blocks = []; entries = []; highest = 0 }) };
+    ghost view = { λ _. opened_story (record { inodes = []; blocks = []; entries = []; highest = 0 }) };
 }
 
 /// The story of a tree on which nothing was put.
 pub(crate) fn open_story(tree: &Tree) -> Told<Story>
-    ensures { result.value ≡ opened tree.now }
+    ensures { result.value ≡ opened_story tree.now }
 {
     tell_of(tree)
 }
@@ -73,7 +73,7 @@ pub(crate) fn lose_page(story: &mut Told<Story>, page: &PageNode, fault: &StoreF
 
 /// All groups are synced.
 pub(crate) fn sync_story(story: &mut Told<Story>)
-    ensures { story.new.value ≡ synced story.old.value }
+    ensures { story.new.value ≡ synced_story story.old.value }
 {
     *story = tell_of(&Snapshot::of(story));
 }
@@ -87,7 +87,7 @@ pub(crate) fn begin_story(story: &mut Told<Story>, tree: &Tree)
 
 /// The commit that runs ends.
 pub(crate) fn end_story(story: &mut Told<Story>)
-    ensures { story.new.value ≡ ended story.old.value }
+    ensures { story.new.value ≡ ended_story story.old.value }
 {
     *story = tell_of(&Snapshot::of(story));
 }

@@ -37,11 +37,11 @@ impl Model for Tree {
     ghost Value = { FilesTree };
 
     ghost use Rattle.std.specs.Prelude.{◌<◌, ◌^◌};
-    ghost use Rattle.plain_backing.specs.TreeCells.{tree_of, IsCounted};
+    ghost use Rattle.plain_backing.specs.TreeCells.{tree_of_cells, AreCellsCounted};
 
-    ghost view = { λ b. tree_of b.cells };
+    ghost view = { λ b. tree_of_cells b.cells };
 
-    ghost invariant = { λ b. IsCounted b.cells × (b.cells.bytes < 2 ^ 40) };
+    ghost invariant = { λ b. AreCellsCounted b.cells × (b.cells.bytes < 2 ^ 40) };
 }
 
 impl Tree {

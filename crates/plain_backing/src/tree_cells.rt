@@ -8,7 +8,7 @@ ghost use Rattle.plain_backing.specs.Cells.{has_cell};
 ghost use Rattle.fs_model.specs.Change.{applied};
 ghost use Rattle.fs_model.specs.Cover.{inode_bytes, block_bytes, entry_bytes};
 ghost use Rattle.fs_model.specs.Files.{pair_cmp, name_cmp};
-ghost use Rattle.plain_backing.specs.TreeCells.{tree_of, set_bytes, IsCounted, HasRoom, KeepsRoom, Makes};
+ghost use Rattle.plain_backing.specs.TreeCells.{tree_of_cells, set_bytes, AreCellsCounted, HasCellRoom, KeepsRoom, Makes};
 
 use crate::block_walk::{clear_blocks, sweep_blocks};
 use crate::cell::{held, make_cell, put, sweep};
@@ -40,10 +40,10 @@ pub(crate) struct TreeCells {
 
 /// Makes a change whose cell is there. Takes no memory.
 pub(crate) fn make(cells: &mut TreeCells, change: Change)
-    requires room { HasRoom cells.old change }
+    requires room { HasCellRoom cells.old change }
     requires fits { cells.old.bytes + set_bytes change < 2 ^ 64 }
-    requires counted { IsCounted cells.old }
-    ensures { Makes cells.old cells.new (applied (tree_of cells.old) change) (set_bytes change) }
+    requires counted { AreCellsCounted cells.old }
+    ensures { Makes cells.old cells.new (applied (tree_of_cells cells.old) change) (set_bytes change) }
 {
     match change {
         Change::SetInode { ino, inode } => set_inode(cells, ino, inode),
@@ -62,8 +62,8 @@ pub(crate) fn make(cells: &mut TreeCells, change: Change)
 fn set_inode(cells: &mut TreeCells, ino: u32, inode: Inode)
     requires room { has_cell nat_cmp cells.old.inodes.entries ino ≡ true }
     requires fits { cells.old.bytes + inode_bytes inode < 2 ^ 64 }
-    requires counted { IsCounted cells.old }
-    ensures { Makes cells.old cells.new (applied (tree_of cells.old) (SetInode ino inode)) (inode_bytes inode) }
+    requires counted { AreCellsCounted cells.old }
+    ensures { Makes cells.old cells.new (applied (tree_of_cells cells.old) (SetInode ino inode)) (inode_bytes inode) }
 {
     let added = inode_bytes(&inode);
     let more = orphans_in(&inode);
@@ -76,8 +76,8 @@ fn set_inode(cells: &mut TreeCells, ino: u32, inode: Inode)
 fn set_entry(cells: &mut TreeCells, entry: Entry)
     requires room { has_cell name_cmp cells.old.entries.entries (entry.dir, entry.name) ≡ true }
     requires fits { cells.old.bytes + entry_bytes entry < 2 ^ 64 }
-    requires counted { IsCounted cells.old }
-    ensures { Makes cells.old cells.new (applied (tree_of cells.old) (SetEntry entry)) (entry_bytes entry) }
+    requires counted { AreCellsCounted cells.old }
+    ensures { Makes cells.old cells.new (applied (tree_of_cells cells.old) (SetEntry entry)) (entry_bytes entry) }
 {
     let Entry {
         dir,
@@ -93,8 +93,8 @@ fn set_entry(cells: &mut TreeCells, entry: Entry)
 }
 
 fn drop_entry(cells: &mut TreeCells, dir: u32, name: Name)
-    requires counted { IsCounted cells.old }
-    ensures { Makes cells.old cells.new (applied (tree_of cells.old) (DropEntry dir name)) 0 }
+    requires counted { AreCellsCounted cells.old }
+    ensures { Makes cells.old cells.new (applied (tree_of_cells cells.old) (DropEntry dir name)) 0 }
 {
     let size = name_bytes(&name);
     let key = (dir, OrderedName::from_name(name));
@@ -113,8 +113,8 @@ fn freed_name(old: Option<Named>, size: u64) -> u64
 fn set_block(cells: &mut TreeCells, ino: u32, block: u32, bytes: Bytes)
     requires room { has_cell pair_cmp cells.old.blocks.entries (ino, block) ≡ true }
     requires fits { cells.old.bytes + block_bytes bytes < 2 ^ 64 }
-    requires counted { IsCounted cells.old }
-    ensures { Makes cells.old cells.new (applied (tree_of cells.old) (SetBlock ino block bytes)) (block_bytes bytes) }
+    requires counted { AreCellsCounted cells.old }
+    ensures { Makes cells.old cells.new (applied (tree_of_cells cells.old) (SetBlock ino block bytes)) (block_bytes bytes) }
 {
     cells.highest = cells.highest.max(ino);
     if held(&cells.inodes, &ino).is_none() {
@@ -126,8 +126,8 @@ fn set_block(cells: &mut TreeCells, ino: u32, block: u32, bytes: Bytes)
 }
 
 fn cut_blocks(cells: &mut TreeCells, ino: u32, size: u64)
-    requires counted { IsCounted cells.old }
-    ensures { (old_size : ℕ) → Makes cells.old cells.new (applied (tree_of cells.old) (CutBlocks ino old_size size)) 0 }
+    requires counted { AreCellsCounted cells.old }
+    ensures { (old_size : ℕ) → Makes cells.old cells.new (applied (tree_of_cells cells.old) (CutBlocks ino old_size size)) 0 }
 {
     let bytes = cells.bytes;
     cells.bytes = bytes - clear_blocks(&mut cells.blocks, ino, size);
@@ -136,8 +136,8 @@ fn cut_blocks(cells: &mut TreeCells, ino: u32, size: u64)
 
 /// Drops an inode with its blocks. Takes no memory.
 pub(crate) fn drop_inode(cells: &mut TreeCells, ino: u32)
-    requires counted { IsCounted cells.old }
-    ensures { Makes cells.old cells.new (applied (tree_of cells.old) (DropInode ino)) 0 }
+    requires counted { AreCellsCounted cells.old }
+    ensures { Makes cells.old cells.new (applied (tree_of_cells cells.old) (DropInode ino)) 0 }
 {
     let bytes = cells.bytes;
     let old = put(&mut cells.inodes, &ino, None);
@@ -148,11 +148,11 @@ pub(crate) fn drop_inode(cells: &mut TreeCells, ino: u32)
 
 /// Makes the cell of what a change sets. Nothing that is seen changes, whether or not there is memory.
 pub(crate) fn make_room(alloc: Global, cells: &mut TreeCells, change: &Change) -> Result<(), Memory>
-    ensures tree { tree_of cells.new ≡ tree_of cells.old }
+    ensures tree { tree_of_cells cells.new ≡ tree_of_cells cells.old }
     ensures bytes { cells.new.bytes ≡ cells.old.bytes }
     ensures orphans { cells.new.orphans ≡ cells.old.orphans }
     ensures keeps { KeepsRoom cells.old cells.new }
-    ensures made { OnOk result (HasRoom cells.new change.now) }
+    ensures made { OnOk result (HasCellRoom cells.new change.now) }
 {
     match change {
         Change::SetInode { ino, inode: _ } => make_cell(&mut cells.inodes, *ino),
@@ -179,7 +179,7 @@ pub(crate) fn entry_key(alloc: Global, dir: u32, name: &Name) -> Result<(u32, Or
 
 /// Takes out the empty cells that a change may have left, but for those of names. Nothing that is seen changes.
 pub(crate) fn sweep_after(cells: &mut TreeCells, change: &Change)
-    ensures tree { tree_of cells.new ≡ tree_of cells.old }
+    ensures tree { tree_of_cells cells.new ≡ tree_of_cells cells.old }
     ensures bytes { cells.new.bytes ≡ cells.old.bytes }
     ensures orphans { cells.new.orphans ≡ cells.old.orphans }
 {
@@ -202,7 +202,7 @@ pub(crate) fn sweep_after(cells: &mut TreeCells, change: &Change)
 
 /// Takes out the empty cells of an inode and its blocks. Nothing that is seen changes.
 pub(crate) fn sweep_inode(cells: &mut TreeCells, ino: u32)
-    ensures tree { tree_of cells.new ≡ tree_of cells.old }
+    ensures tree { tree_of_cells cells.new ≡ tree_of_cells cells.old }
     ensures bytes { cells.new.bytes ≡ cells.old.bytes }
     ensures orphans { cells.new.orphans ≡ cells.old.orphans }
 {

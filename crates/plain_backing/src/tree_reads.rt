@@ -2,7 +2,7 @@
 
 ghost use Rattle.std.specs.Prelude.{◌≡◌, ◌++◌, ◌∷◌, ℕ, List, [], false, IfOk, OnOk};
 ghost use Rattle.std.specs.BTreeMap.Range.{is_past_end};
-ghost use Rattle.plain_backing.specs.Cells.{seen};
+ghost use Rattle.plain_backing.specs.Cells.{seen_cells};
 ghost use Rattle.fs_model.specs.Files.{pair_cmp, name_cmp};
 ghost use Rattle.plain_backing.specs.TreeCells.{in_directory};
 ghost use Rattle.fs_model.specs.Files.{last_block_of};
@@ -68,7 +68,7 @@ fn push_entry(
 
 /// The greatest number of an inode's blocks.
 pub(crate) fn last_block(map: &BTreeMap<(u32, u32), Option<Bytes>>, ino: u32) -> Option<u32>
-    ensures { result ≡ last_block_of (seen map.now.entries) ino }
+    ensures { result ≡ last_block_of (seen_cells map.now.entries) ino }
 {
     let mut left = map.range((Bound::Included((ino, 0)), blocks_end(ino)));
     while let Some((key, cell)) = left.next_back() {

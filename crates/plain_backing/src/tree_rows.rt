@@ -3,7 +3,7 @@
 ghost use Rattle.std.specs.Prelude.{◌≡◌, ◌==◌, filter, length};
 ghost use Rattle.std.specs.Iterator.{at_most};
 ghost use Rattle.std.specs.Map.Iter.{TakesFirst};
-ghost use Rattle.plain_backing.specs.Cells.{seen};
+ghost use Rattle.plain_backing.specs.Cells.{seen_cells};
 ghost use Rattle.plain_backing.specs.TreeRows.{inode_row, block_row};
 
 use crate::tree_reads::blocks_end;
@@ -22,16 +22,16 @@ pub struct InodeRows<'a> {
 
 impl<'a> Model for InodeRows<'a> {
     ghost use Rattle.fs_model.specs.Files.{Inodes};
-    ghost use Rattle.plain_backing.specs.Cells.{seen};
+    ghost use Rattle.plain_backing.specs.Cells.{seen_cells};
 
     ghost Value = { Inodes };
 
-    ghost view = { λ rows. seen rows.cells };
+    ghost view = { λ rows. seen_cells rows.cells };
 }
 
 impl<'a> InodeRows<'a> {
     pub(crate) fn new(map: &'a BTreeMap<u32, Option<Inode>>) -> InodeRows<'a>
-        ensures { result ≡ seen map.now.entries }
+        ensures { result ≡ seen_cells map.now.entries }
     {
         InodeRows { cells: map.iter() }
     }
@@ -67,16 +67,16 @@ pub struct BlockRows<'a> {
 impl<'a> Model for BlockRows<'a> {
     ghost use Rattle.std.specs.Prelude.{◌==◌, filter};
     ghost use Rattle.fs_model.specs.Files.{Blocks};
-    ghost use Rattle.plain_backing.specs.Cells.{seen};
+    ghost use Rattle.plain_backing.specs.Cells.{seen_cells};
 
     ghost Value = { Blocks };
 
-    ghost view = { λ rows. filter (λ stored. stored.0.0 == rows.ino) (seen rows.cells) };
+    ghost view = { λ rows. filter (λ stored. stored.0.0 == rows.ino) (seen_cells rows.cells) };
 }
 
 impl<'a> BlockRows<'a> {
     pub(crate) fn new(map: &'a BTreeMap<(u32, u32), Option<Bytes>>, ino: u32) -> BlockRows<'a>
-        ensures { result ≡ filter (λ stored. stored.0.0 == ino) (seen map.now.entries) }
+        ensures { result ≡ filter (λ stored. stored.0.0 == ino) (seen_cells map.now.entries) }
     {
         let start = Bound::Included((ino, 0));
         BlockRows {

@@ -9,23 +9,23 @@ use Rattle.fs_model.specs.declared.inode.Kind.TheVariants.{File, Dir, Symlink}
 use Rattle.fs_model.specs.Files.{Tree}
 
 -- an inode of these links, size and data
-abbrev pub inode_of : Kind → ℕ → ℕ → List ℕ → Inode
-inode_of kind nlink size extra = record { kind = kind; mode = 420; uid = 7; gid = 8; flags = 0; nlink = nlink; size = size; atime = 1; ctime = 2; mtime = 3; extra = extra }
+abbrev pub sample_inode : Kind → ℕ → ℕ → List ℕ → Inode
+sample_inode kind nlink size extra = record { kind = kind; mode = 420; uid = 7; gid = 8; flags = 0; nlink = nlink; size = size; atime = 1; ctime = 2; mtime = 3; extra = extra }
 
-abbrev pub entry_of : ℕ → List ℕ → ℕ → Kind → Entry
-entry_of dir name ino kind = record { dir = dir; name = name; ino = ino; kind = kind }
+abbrev pub sample_entry : ℕ → List ℕ → ℕ → Kind → Entry
+sample_entry dir name ino kind = record { dir = dir; name = name; ino = ino; kind = kind }
 
 -- the links and sizes that the directories' inodes say are wrong
 abbrev pub sample_inodes : List Change
 sample_inodes =
-    SetInode 1 (inode_of Dir 9 5 []) ∷ SetInode 65 (inode_of File 2 8193 []) ∷ SetInode 66 (inode_of Dir 9 5 []) ∷ SetInode 67 (inode_of Symlink 1 2 (codes "am"))
+    SetInode 1 (sample_inode Dir 9 5 []) ∷ SetInode 65 (sample_inode File 2 8193 []) ∷ SetInode 66 (sample_inode Dir 9 5 []) ∷ SetInode 67 (sample_inode Symlink 1 2 (codes "am"))
     ∷ []
 
 -- the names `am` and `bb` have one hash, and `d` a smaller one
 abbrev pub sample_entries : List Change
 sample_entries =
-    SetEntry (entry_of 1 (codes "am") 65 File) ∷ SetEntry (entry_of 1 (codes "bb") 65 File) ∷ SetEntry (entry_of 1 (codes "d") 66 Dir)
-    ∷ SetEntry (entry_of 66 (codes "s") 67 Symlink) ∷ []
+    SetEntry (sample_entry 1 (codes "am") 65 File) ∷ SetEntry (sample_entry 1 (codes "bb") 65 File) ∷ SetEntry (sample_entry 1 (codes "d") 66 Dir)
+    ∷ SetEntry (sample_entry 66 (codes "s") 67 Symlink) ∷ []
 
 abbrev pub sample_blocks : List Change
 sample_blocks = SetBlock 65 0 (codes "abc") ∷ SetBlock 65 2 (codes "z") ∷ []
@@ -33,10 +33,10 @@ sample_blocks = SetBlock 65 0 (codes "abc") ∷ SetBlock 65 2 (codes "z") ∷ []
 -- the tree that these make
 abbrev pub sample : Tree
 sample = record {
-  inodes = (1, inode_of Dir 9 5 []) ∷ (65, inode_of File 2 8193 []) ∷ (66, inode_of Dir 9 5 []) ∷ (67, inode_of Symlink 1 2 (codes "am")) ∷ [];
+  inodes = (1, sample_inode Dir 9 5 []) ∷ (65, sample_inode File 2 8193 []) ∷ (66, sample_inode Dir 9 5 []) ∷ (67, sample_inode Symlink 1 2 (codes "am")) ∷ [];
   blocks = ((65, 0), codes "abc") ∷ ((65, 2), codes "z") ∷ [];
   entries =
-      ((1, codes "am"), entry_of 1 (codes "am") 65 File) ∷ ((1, codes "bb"), entry_of 1 (codes "bb") 65 File) ∷ ((1, codes "d"), entry_of 1 (codes "d") 66 Dir)
-      ∷ ((66, codes "s"), entry_of 66 (codes "s") 67 Symlink) ∷ [];
+      ((1, codes "am"), sample_entry 1 (codes "am") 65 File) ∷ ((1, codes "bb"), sample_entry 1 (codes "bb") 65 File) ∷ ((1, codes "d"), sample_entry 1 (codes "d") 66 Dir)
+      ∷ ((66, codes "s"), sample_entry 66 (codes "s") 67 Symlink) ∷ [];
   highest = 67;
 }

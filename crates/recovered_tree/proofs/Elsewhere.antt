@@ -2,11 +2,11 @@
 use Rattle.std.proofs.Common.{◌≡◌, map, ap}
 use Rattle.small_areas.specs.declared.placed_master.PlacedMaster.{PlacedMaster}
 use Rattle.bud_log.specs.Log.{references_of}
-use Rattle.journal_scan.specs.Journal.{copies_in, nodes_in}
+use Rattle.journal_scan.specs.Journal.{copies_in, journal_nodes_in}
 use Rattle.leaf_map.specs.Parts.{Parts}
 use Rattle.leaf_map.specs.Recovered.{tree_found}
 use Rattle.fs_model.specs.Files.{Tree}
-use Rattle.sound_image.specs.Image.{Image, named_by, parts_of}
+use Rattle.sound_image.specs.Image.{Image, named_by_ref_node, parts_of}
 use Rattle.sound_image.specs.Summary.{with_a_link}
 use Rattle.recovered_tree.specs.Files.{files_of_image, without_lone_blocks}
 
@@ -14,8 +14,8 @@ same_parts : (image : Image) (latest : PlacedMaster) → latest.master ≡ image
 same_parts image latest e = λ i. record {
   highest = (e i).highest_inum;
   committed = image.committed;
-  named = map named_by (references_of image.log);
-  nodes = nodes_in image.buds;
+  named = map named_by_ref_node (references_of image.log);
+  nodes = journal_nodes_in image.buds;
   copies = copies_in image.buds;
   listed = image.listed;
 }

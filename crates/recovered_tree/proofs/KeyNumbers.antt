@@ -7,16 +7,16 @@ use Rattle.index_tree.specs.Shape.{contents as leaves_in}
 use Rattle.index_tree.specs.declared.leaf.Leaf.{Leaf}
 use Rattle.index_media.specs.PlacedRow.{plain}
 use Rattle.small_areas.specs.declared.placed_master.PlacedMaster.{PlacedMaster}
-use Rattle.journal_scan.specs.Journal.{BudRead, nodes_in}
+use Rattle.journal_scan.specs.Journal.{BudRead, journal_nodes_in}
 use Rattle.leaf_map.specs.Kept.{node_key}
 use Rattle.leaf_map.specs.Parts.{Committed}
-use Rattle.leaf_map.specs.Recovered.{highest_key, in_order, recovered_of}
+use Rattle.leaf_map.specs.Recovered.{highest_key, nodes_in_order, recovered_of}
 use Rattle.sound_image.specs.Image.{Image, parts_of}
 use Rattle.sound_image.specs.Leaves.{AreCommitted}
 use Rattle.sound_image.specs.Sound.{SoundImage}
 use Rattle.sound_check.specs.Reads.{IsReadImage}
 use Rattle.sound_check.specs.declared.image_read.ImageRead.{ImageRead}
-use Rattle.recovered_tree.specs.Highest.{highest_read}
+use Rattle.recovered_tree.specs.Highest.{highest_image_read}
 
 from_first : (n : ℕ) (keys : List Key) → highest_key n keys ≡ max n (highest_key 0 keys)
 from_first n [] = omega arith
@@ -36,11 +36,11 @@ committed_keys contents (leaf ∷ leaves) [] h = absurd h
 committed_keys contents (leaf ∷ leaves) (x ∷ committed) h =
     ap (λ (l : Leaf). l.key ∷ map (λ (leaf : Leaf). leaf.key) leaves) (sym h.0) ∙ ap (λ (keys : List Key). x.leaf.key ∷ keys) (committed_keys contents leaves committed h.2)
 
-pub highest_is : (contents : ℕ → List ℕ) (read : ImageRead) (image : Image) → SoundImage contents image → IsReadImage contents read image → highest_read read ≡ (recovered_of (parts_of image)).highest
+pub highest_is : (contents : ℕ → List ℕ) (read : ImageRead) (image : Image) → SoundImage contents image → IsReadImage contents read image → highest_image_read read ≡ (recovered_of (parts_of image)).highest
 highest_is contents read image sound h =
     let leaves = read.index.leaves.items in
     let committed = image.committed in
-    let nodes : List BudRead → List Key = λ reads. map (λ x. node_key x.node) (in_order (nodes_in reads)) in
+    let nodes : List BudRead → List Key = λ reads. map (λ x. node_key x.node) (nodes_in_order (journal_nodes_in reads)) in
     let of_journal : read.buds.read.highest ≡ highest_key 0 (nodes image.buds) = h.said.read.highest ∙ ap (λ (reads : List BudRead). highest_key 0 (nodes reads)) h.said.buds in
     let keys : map (λ (leaf : Leaf). leaf.key) leaves ≡ map (λ (x : Committed). x.leaf.key) committed = ap (λ (ls : List Leaf). map (λ (leaf : Leaf). leaf.key) ls) h.index.leaves ∙ committed_keys contents (leaves_in (plain image.placed)) committed sound.leaves.committed in
     let first : read.latest.master.highest_inum ≡ image.latest.master.highest_inum = ap (λ (m : PlacedMaster). m.master.highest_inum) (sym h.latest) in

@@ -7,7 +7,7 @@ use Rattle.media_leaf.specs.declared.ino_node.InoNode.{InoNode}
 use Rattle.ubifs_base.specs.NodeLaws.{IsBytes}
 use Rattle.fs_model.specs.declared.change.Change.{Change}
 use Rattle.group_nodes.specs.LengthLaws.{leaf_length, length_most}
-use Rattle.group_nodes.specs.Nodes.{IsReadOf}
+use Rattle.group_nodes.specs.Nodes.{IsChangeReadOf}
 use Rattle.leaf_map.specs.Kept.{shown}
 use Rattle.recovered_tree.specs.Sets.{IsShownIn}
 
@@ -45,13 +45,13 @@ inode_shown_in one bytes (Some n) node read fits is (s, g, h) made sqnum group o
     made ∙ ap (λ (m : InoNode). shown (inode m)) (sym same) ∙ ap shown (one bytes s g sqnum group (inode n) other fits h there).2
 
 -- what another node carries is what it shows
-carried : (bytes : List ℕ) (read : Option Change) → ((sqnum group : ℕ) (n : InoNode) → IsLeafNode bytes sqnum group (inode n) → ⊥) → IsReadOf bytes read → IsShownIn bytes read
+carried : (bytes : List ℕ) (read : Option Change) → ((sqnum group : ℕ) (n : InoNode) → IsLeafNode bytes sqnum group (inode n) → ⊥) → IsChangeReadOf bytes read → IsShownIn bytes read
 carried bytes read none of sqnum group (inode n) h = absurd (none sqnum group n h)
 carried bytes read none of sqnum group (block n) h = of.exact sqnum group (block n) h
 carried bytes read none of sqnum group (entry n) h = of.exact sqnum group (entry n) h
 carried bytes read none of sqnum group (truncation n) h = of.exact sqnum group (truncation n) h
 
-pub other_shown_in : (bytes : List ℕ) (found : Option InoNode) → found ≡ None → IfNone found ((sqnum group : ℕ) (n : InoNode) → IsLeafNode bytes sqnum group (inode n) → ⊥) → {E : Type 0} (r : Result (Option Change) E) → IfOk r (IsReadOf bytes) → IfOk r (IsShownIn bytes)
+pub other_shown_in : (bytes : List ℕ) (found : Option InoNode) → found ≡ None → IfNone found ((sqnum group : ℕ) (n : InoNode) → IsLeafNode bytes sqnum group (inode n) → ⊥) → {E : Type 0} (r : Result (Option Change) E) → IfOk r (IsChangeReadOf bytes) → IfOk r (IsShownIn bytes)
 other_shown_in bytes (Some n) is none r h = absurd cc
 other_shown_in bytes None is none (Ok read) h = carried bytes read none h
 other_shown_in bytes None is none (Err e) h = tt

@@ -21,7 +21,7 @@ use Rattle.fs_model.specs.Change.{applied, apply}
 use Rattle.fs_model.specs.Files.{Blocks, Entries, Inodes, Tree, name_cmp, pair_cmp}
 use Rattle.fs_model.specs.Proper.{IsProper, ascends}
 use Rattle.leaf_map.specs.Kept.{Kept, shown_by}
-use Rattle.leaf_map.specs.Shown.{blocks_of, entries_of, inodes_of, tree_of, with_block, with_entry, with_inode}
+use Rattle.leaf_map.specs.Shown.{blocks_shown_by, entries_of, inodes_of, tree_of, with_shown_block, with_entry, with_shown_inode}
 use Rattle.sound_image.specs.Summary.{with_a_link}
 use Rattle.recovered_tree.specs.Files.{without_lone_blocks}
 use Rattle.recovered_tree.specs.Sets.{set_inodes, set_others, with_set_inode, with_set_other}
@@ -63,9 +63,9 @@ pub inodes_made : (h : ℕ) (kept : List Kept) → ascends nat_cmp (keys_of (wit
 inodes_made h [] a n = refl
 inodes_made h (x ∷ kept) a n = by (shown_by x) a n (inodes_made h kept)
   where
-    by : (s : Option Change) → ascends nat_cmp (keys_of (with_links (with_inode s (inodes_of kept)))) ≡ true → inodes_low h (with_links (with_inode s (inodes_of kept))) ≡ true
+    by : (s : Option Change) → ascends nat_cmp (keys_of (with_links (with_shown_inode s (inodes_of kept)))) ≡ true → inodes_low h (with_links (with_shown_inode s (inodes_of kept))) ≡ true
         → (ascends nat_cmp (keys_of (with_links (inodes_of kept))) ≡ true → inodes_low h (with_links (inodes_of kept)) ≡ true → apply (no_files h) (reverse (set_inodes kept)) ≡ record { inodes = with_links (inodes_of kept); blocks = []; entries = []; highest = h })
-        → apply (no_files h) (reverse (with_set_inode s (set_inodes kept))) ≡ record { inodes = with_links (with_inode s (inodes_of kept)); blocks = []; entries = []; highest = h }
+        → apply (no_files h) (reverse (with_set_inode s (set_inodes kept))) ≡ record { inodes = with_links (with_shown_inode s (inodes_of kept)); blocks = []; entries = []; highest = h }
     by (Some (SetInode ino inode)) a n more =
         let set = SetInode ino (with_a_link inode) in
         let rest = with_links (inodes_of kept) in
@@ -144,27 +144,27 @@ pub record AreLow (h : ℕ) (bs : Blocks) (es : Entries) : Type 0 where
   pub blocks : blocks_low h bs ≡ true
   pub entries : entries_low h es ≡ true
 
-pub others_made : (inodes : Inodes) (h : ℕ) (kept : List Kept) → AreLow h (blocks_of kept) (entries_of kept)
-    → apply (with_others inodes h [] []) (reverse (set_others kept)) ≡ with_others inodes h (blocks_of kept) (entries_of kept)
+pub others_made : (inodes : Inodes) (h : ℕ) (kept : List Kept) → AreLow h (blocks_shown_by kept) (entries_of kept)
+    → apply (with_others inodes h [] []) (reverse (set_others kept)) ≡ with_others inodes h (blocks_shown_by kept) (entries_of kept)
 others_made inodes h [] l = refl
 others_made inodes h (x ∷ kept) l = by (shown_by x) l (others_made inodes h kept)
   where
     start : Tree
     start = with_others inodes h [] []
 
-    by : (s : Option Change) → AreLow h (with_block s (blocks_of kept)) (with_entry s (entries_of kept))
-        → (AreLow h (blocks_of kept) (entries_of kept) → apply start (reverse (set_others kept)) ≡ with_others inodes h (blocks_of kept) (entries_of kept))
-        → apply start (reverse (with_set_other s (set_others kept))) ≡ with_others inodes h (with_block s (blocks_of kept)) (with_entry s (entries_of kept))
+    by : (s : Option Change) → AreLow h (with_shown_block s (blocks_shown_by kept)) (with_entry s (entries_of kept))
+        → (AreLow h (blocks_shown_by kept) (entries_of kept) → apply start (reverse (set_others kept)) ≡ with_others inodes h (blocks_shown_by kept) (entries_of kept))
+        → apply start (reverse (with_set_other s (set_others kept))) ≡ with_others inodes h (with_shown_block s (blocks_shown_by kept)) (with_entry s (entries_of kept))
     by (Some (SetBlock ino number bytes)) l more =
         let set = SetBlock ino number bytes in
-        let low = and_parts (nat_le ino h) (blocks_low h (blocks_of kept)) l.blocks in
+        let low = and_parts (nat_le ino h) (blocks_low h (blocks_shown_by kept)) l.blocks in
         reversed_fold applied start set (set_others kept)
-        ∙ ap (λ (t : Tree). applied t set) (more (record { ascend = tail_ascends pair_cmp (blocks_of kept) ((ino, number), bytes) l.ascend; blocks = low.1; entries = l.entries }))
-        ∙ block_first inodes h (blocks_of kept) (entries_of kept) ino number bytes l.ascend low.0
+        ∙ ap (λ (t : Tree). applied t set) (more (record { ascend = tail_ascends pair_cmp (blocks_shown_by kept) ((ino, number), bytes) l.ascend; blocks = low.1; entries = l.entries }))
+        ∙ block_first inodes h (blocks_shown_by kept) (entries_of kept) ino number bytes l.ascend low.0
     by (Some (SetEntry e)) l more =
         let low = entry_low h (entries_of kept) (e.dir, e.name) e l.entries in
         reversed_fold applied start (SetEntry e) (set_others kept) ∙ ap (λ (t : Tree). applied t (SetEntry e)) (more (record { ascend = l.ascend; blocks = l.blocks; entries = low.1 }))
-        ∙ entry_set inodes h (blocks_of kept) (entries_of kept) e low.0
+        ∙ entry_set inodes h (blocks_shown_by kept) (entries_of kept) e low.0
     by None l more = more l
     by (Some (SetInode ino inode)) l more = more l
     by (Some (DropEntry dir name)) l more = more l
@@ -183,8 +183,8 @@ pub files_made : (kept : List Kept) (h : ℕ) → IsProper (record (tree_of kept
 files_made kept h proper =
     let inodes = with_links (inodes_of kept) in
     let numbered : Bool = list_all (λ (e : (ℕ × List ℕ) × Entry). nat_le e.0.0 h && nat_le e.1.ino h) (entries_of kept) in
-    let p = and_parts (inodes_low h inodes && blocks_low h (blocks_of kept)) numbered proper.numbers in
-    let q = and_parts (inodes_low h inodes) (blocks_low h (blocks_of kept)) p.0 in
+    let p = and_parts (inodes_low h inodes && blocks_low h (blocks_shown_by kept)) numbered proper.numbers in
+    let q = and_parts (inodes_low h inodes) (blocks_low h (blocks_shown_by kept)) p.0 in
     ap (λ (t : Tree). apply t (reverse (set_others kept))) (inodes_made h kept proper.inodes_ascend q.0)
     ∙ others_made inodes h kept (record { ascend = proper.blocks_ascend; blocks = q.1; entries = entries_numbered h (entries_of kept) p.1 })
 

@@ -2,7 +2,7 @@
 
 ghost use Rattle.std.specs.Prelude.{◌≡◌, fold, max};
 ghost use Rattle.ubifs_base.specs.Key.{key_words};
-ghost use Rattle.recovered_tree.specs.Highest.{highest_read};
+ghost use Rattle.recovered_tree.specs.Highest.{highest_image_read};
 
 use index_tree::Leaf;
 use sound_check::ImageRead;
@@ -10,7 +10,7 @@ use ubifs_base::Key;
 
 /// The highest of the master's, of those in the keys of the committed leaves, and of those in the keys of the journal's nodes.
 pub(crate) fn highest_of(read: &ImageRead) -> u32
-    ensures { result ≡ highest_read read.now }
+    ensures { result ≡ highest_image_read read.now }
 {
     let committed = highest_in(
         read.latest.master.highest_inum,

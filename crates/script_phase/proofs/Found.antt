@@ -7,7 +7,7 @@ use Rattle.std.proofs.lemmas.List.Elements.{All-cons, All-head, All-nil, All-tai
 use Rattle.std.proofs.lemmas.List.Sums.{length-filter}
 use Rattle.fs_model.specs.declared.trace.TraceLine.{TraceLine}
 use Rattle.trace_word.specs.Knowledge.{lines_of}
-use Rattle.traced_files.specs.States.{PassState}
+use Rattle.traced_files.specs.States.{TracedPassState}
 use Rattle.writeback.specs.declared.job.Job.{Job}
 use Rattle.writeback.specs.Runs.{HasLines, lines_by}
 use Rattle.script_phase.specs.declared.lines.CallerLine.{CallerLine}
@@ -15,7 +15,7 @@ use Rattle.script_phase.specs.Phases.{AreNumberedFrom, is_memory, last_caller, o
 use Rattle.script_phase.proofs.Called.{IsAt, all_called, op_in}
 use Rattle.script_phase.proofs.TraceLines.{IsToldOf}
 
-abbrev pub pass_of : Job → PassState
+abbrev pub pass_of : Job → TracedPassState
 pass_of j = j.pass
 
 -- What is known of a job: it is a new pass's, has its caller's operations at this time, and the trace has as many lines of its caller.

@@ -8,7 +8,7 @@ use Rattle.fs_model.specs.declared.op.Op.{Op}
 use Rattle.fs_model.specs.declared.trace.TraceLine.{TraceLine}
 use Rattle.fs_laws.specs.Sound.{IsCall}
 use Rattle.trace_word.specs.Knowledge.{lines_of}
-use Rattle.traced_files.specs.States.{PassState, fresh_pass, fresh_passes}
+use Rattle.traced_files.specs.States.{TracedPassState, fresh_pass, fresh_passes}
 use Rattle.writeback.specs.declared.job.Job.{Job}
 use Rattle.writeback.specs.Runs.{HasLines, MayRun}
 use Rattle.script_phase.specs.declared.lines.CallerLine.{CallerLine}
@@ -25,7 +25,7 @@ all_came came [] whole is none = sym (append-nil came) ∙ is
 all_came came (x ∷ xs) whole is none = absurd (omega arith)
 
 -- a new pass of this word and this pool
-pub record IsNewPass (word pool : TableId) (p : PassState) : Type 0 where
+pub record IsNewPass (word pool : TableId) (p : TracedPassState) : Type 0 where
   pub word_is : p.word ≡ word
   pub pool_is : p.pool ≡ pool
   pub seen : p.seen ≡ []
@@ -38,7 +38,7 @@ pub length-fresh_passes : (word pool : TableId) (n : ℕ) → length (fresh_pass
 length-fresh_passes word pool zero = omega arith
 length-fresh_passes word pool (suc n) = omega (arith, length-append (fresh_passes word pool n) (fresh_pass word pool (suc n) ∷ []), length-fresh_passes word pool n)
 
-numbered_push : (caller : ℕ) (xs : List PassState) (p : PassState) → AreNumberedFrom caller xs → p.caller ≡ caller + length xs + 1 → AreNumberedFrom caller (xs ++ p ∷ [])
+numbered_push : (caller : ℕ) (xs : List TracedPassState) (p : TracedPassState) → AreNumberedFrom caller xs → p.caller ≡ caller + length xs + 1 → AreNumberedFrom caller (xs ++ p ∷ [])
 numbered_push caller [] p all is = (omega (arith, is), tt)
 numbered_push caller (x ∷ xs) p all is = (all.0, numbered_push (caller + 1) xs p all.1 (omega (arith, is)))
 
@@ -77,12 +77,12 @@ all_may word pool now lines (j ∷ js) calls passes all =
     (all_may word pool now lines js calls (All-tail (IsNewPass word pool) (pass_of j) (map pass_of js) passes) (All-tail (IsJobOf now lines) j js all))
 
 -- the jobs of new passes may run
-pub fresh_may : (word pool : TableId) (n now : ℕ) (lines : List CallerLine) (jobs : List Job) (passes : List PassState) → map pass_of jobs ≡ passes → passes ≡ fresh_passes word pool n → All GivesBytes lines → All (IsJobOf now lines) jobs
+pub fresh_may : (word pool : TableId) (n now : ℕ) (lines : List CallerLine) (jobs : List Job) (passes : List TracedPassState) → map pass_of jobs ≡ passes → passes ≡ fresh_passes word pool n → All GivesBytes lines → All (IsJobOf now lines) jobs
     → All (λ j. MayRun word pool j) jobs
 fresh_may word pool n now lines jobs passes are fresh calls all = all_may word pool now lines jobs calls (subst (All (IsNewPass word pool)) (sym (are ∙ fresh)) (all_fresh word pool n)) all
 
 -- there is one for each
-pub as_many : (word pool : TableId) (n : ℕ) (jobs : List Job) (passes : List PassState) → map pass_of jobs ≡ passes → passes ≡ fresh_passes word pool n → length jobs ≡ n
+pub as_many : (word pool : TableId) (n : ℕ) (jobs : List Job) (passes : List TracedPassState) → map pass_of jobs ≡ passes → passes ≡ fresh_passes word pool n → length jobs ≡ n
 as_many word pool n jobs passes are fresh = sym (length-map jobs pass_of) ∙ ap length (are ∙ fresh) ∙ length-fresh_passes word pool n
 
 abbrev pub count_of : Job → ℕ

@@ -13,10 +13,10 @@ use Rattle.buffered_files.specs.declared.kept.Kept.{Kept}
 use Rattle.buffered_files.specs.Alike.{IsAlike}
 use Rattle.buffered_files.specs.Calls.{full_weight}
 use Rattle.plain_backing.specs.declared.backing.PlainBacking.{PlainBacking}
-use Rattle.plain_backing.specs.PlainBacking.{outlook_of, state_of}
+use Rattle.plain_backing.specs.PlainBacking.{outlook_of, backing_state_of}
 use Rattle.vfs_ops.specs.FilesState.{FilesState, present_in}
-use Rattle.traced_files.specs.History.{IsAsked, IsWithinWeight, first_place, grown_weight, is_flushed}
-use Rattle.traced_files.specs.States.{PassState}
+use Rattle.traced_files.specs.History.{IsRoomAsked, IsWithinWeight, first_place, grown_weight, is_flushed}
+use Rattle.traced_files.specs.States.{TracedPassState}
 use Rattle.writeback.specs.Runs.{lines_by}
 use Rattle.script_phase.specs.declared.lines.CallerLine.{CallerLine}
 
@@ -43,7 +43,7 @@ abbrev pub callers_in : List CallerLine → ℕ
 callers_in lines = callers_to (last_caller lines) lines
 
 -- the passes of the callers behind this one, in order
-abbrev pub AreNumberedFrom : ℕ → List PassState → Type 0
+abbrev pub AreNumberedFrom : ℕ → List TracedPassState → Type 0
 AreNumberedFrom caller [] = Unit {0}
 AreNumberedFrom caller (pass ∷ passes) = (pass.caller ≡ caller + 1) × AreNumberedFrom (caller + 1) passes
 
@@ -54,14 +54,14 @@ is_memory reply = false
 
 -- No call of the backing fails, and it can be written. All that it promised has room, and each covered credit is that of a dirty page.
 pub record IsUnfailing (backing : PlainBacking) (kept : Kept) : Type 0 where
-  pub mode : (state_of backing).mode ≡ ReadWrite
-  pub faults : (state_of backing).faults ≡ 0
+  pub mode : (backing_state_of backing).mode ≡ ReadWrite
+  pub faults : (backing_state_of backing).faults ≡ 0
   pub sure : (outlook_of backing).sure
-  pub credits : (state_of backing).space.credits ≡ length kept.pages.dirty
+  pub credits : (backing_state_of backing).space.credits ≡ length kept.pages.dirty
 
 -- The backing has the geometry that it had, and lists of orphans take as many.
 abbrev pub HasSameLimits : PlainBacking → PlainBacking → Type 0
-HasSameLimits old new = ((state_of new).geometry ≡ (state_of old).geometry) × ((state_of new).orphan_limit ≡ (state_of old).orphan_limit)
+HasSameLimits old new = ((backing_state_of new).geometry ≡ (backing_state_of old).geometry) × ((backing_state_of new).orphan_limit ≡ (backing_state_of old).orphan_limit)
 
 -- Callers were at work at once. Their lines are one trace, from the opening to these files.
 pub record IsOneTrace (opening : Opening) (now : ℕ) (lines : List CallerLine) (trace : List TraceLine) (after : FilesState) : Type 0 where
@@ -71,7 +71,7 @@ pub record IsOneTrace (opening : Opening) (now : ℕ) (lines : List CallerLine) 
   -- Each is numbered by its caller, and answered as the plain operation answers on the files that the line before it left; or it is refused: for want of room if it may ask for room, or since the next list of orphans is full. None was refused for want of memory, or by a fault of the volume.
   pub last : Place
   pub answered : AreLines opening ReadWrite (first_place opening) trace last
-  pub asked : All IsAsked trace
+  pub asked : All IsRoomAsked trace
   pub memory : All (λ line. is_memory line.reply ≡ false) trace
   pub faultless : flat_map count_in trace ≡ []
   -- Callers see the files behind the last line, but for zeros at the ends of blocks.

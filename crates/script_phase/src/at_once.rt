@@ -4,7 +4,7 @@ ghost use Rattle.std.specs.Prelude.{◌≡◌, ◌<◌, All, IfOk, length};
 ghost use Rattle.fs_laws.specs.Sound.{IsCall};
 ghost use Rattle.fs_model.specs.Legal.{IsLegal};
 ghost use Rattle.plain_backing.specs.PlainBacking.{outlook_of};
-ghost use Rattle.traced_files.specs.Calls.{AreLegal, IsClosedHistory};
+ghost use Rattle.traced_files.specs.Calls.{AreLinesLegal, IsClosedHistory};
 ghost use Rattle.traced_files.specs.History.{opening_of, present_of};
 ghost use Rattle.traced_files.specs.Seen.{LeavesSeen};
 ghost use Rattle.traced_files.specs.Start.{IsNewLedger};
@@ -85,7 +85,7 @@ fn ran<J: Site + Send + Sync, G: Gate + Sync, R: Threads + Wait + Sync>(
     requires credits { (files_state fs).backing.space.credits ≡ length (files_state fs).kept.pages.dirty }
     requires jobs { (0 < length jobs.items) × All (λ j. MayRun J.word J.pool j) jobs.items }
     ensures history { IfOk result (λ closed. IsClosedHistory J.start closed.trace.items (files_state closed.fs) (outlook_of closed.fs.backing)) }
-    ensures legal { IfOk result (λ closed. AreLegal J.start closed.trace.items (files_state closed.fs) (outlook_of closed.fs.backing)) }
+    ensures legal { IfOk result (λ closed. AreLinesLegal J.start closed.trace.items (files_state closed.fs) (outlook_of closed.fs.backing)) }
     ensures lines { IfOk result (λ closed. All (λ j. HasLines closed.trace.items j) jobs.items) }
     ensures credits { IfOk result (λ closed. (files_state closed.fs).backing.space.credits ≡ length (files_state closed.fs).kept.pages.dirty) }
 {

@@ -22,7 +22,7 @@ use Rattle.buffered_files.specs.declared.kept.Kept.{Kept}
 use Rattle.buffered_files.specs.Calls.{IsWithoutRoom, SureGoes}
 use Rattle.buffered_files.specs.Present.{IsKept, present}
 use Rattle.plain_backing.specs.declared.backing.PlainBacking.{PlainBacking}
-use Rattle.plain_backing.specs.PlainBacking.{Covers, state_of, outlook_of}
+use Rattle.plain_backing.specs.PlainBacking.{Covers, backing_state_of, outlook_of}
 use Rattle.plain_backing.specs.Spending.{is_spent}
 use Rattle.vfs_ops.specs.declared.event.Event.TheVariants.{Call}
 use Rattle.vfs_ops.specs.declared.event.Outcome.{Outcome}
@@ -32,11 +32,11 @@ use Rattle.vfs_plans.specs.Answers.{IsFault}
 use Rattle.vfs_ops.specs.Operations.{has_group}
 use Rattle.vfs_ops.specs.Steps.{IsAnswered, IsDone, IsExact, IsLast, IsRefusedFor, IsTurnedDown, IsUnsynced, Passage, allowed, allowed_on, asked, is_write, read_only_cause}
 use Rattle.script_phase.specs.Phases.{is_memory}
-use Rattle.script_run.specs.Run.{HasNoRoom, IsAnswer, IsFull, Running, orphans_told, plain}
+use Rattle.script_run.specs.Run.{HasNoRoom, IsScriptAnswer, IsRefusedForRoom, ScriptRunning, orphans_told, plain}
 use Rattle.script_run.specs.Sessions.{IsSteady, mounted_over}
 
 -- the next list of orphans is as long as callers see it, and as much room is left
-plainly : (geo : RawGeometry) (s : BackingState) (before : Running) (caller : ℕ) (op : Op) → s.orphan_limit ≡ orphan_limit geo.leb_size → next_orphans s ≡ orphans_told before
+plainly : (geo : RawGeometry) (s : BackingState) (before : ScriptRunning) (caller : ℕ) (op : Op) → s.orphan_limit ≡ orphan_limit geo.leb_size → next_orphans s ≡ orphans_told before
     → allowed_on s before.files caller before.now op ≡ plain geo before caller op
 plainly geo s before caller op e long =
     ap (λ n. allowed (s.orphan_limit - n) s.orphan_limit before.files caller before.now op) long ∙ ap (λ limit. allowed (limit - orphans_told before) limit before.files caller before.now op) e
@@ -70,7 +70,7 @@ no_rise a b e f (inl less) = omega (arith, e, f, less)
 no_rise a b e f (inr most) = omega (arith, f, most)
 
 -- what is known of a backing when a step has ended
-pub record IsCalm (geo : RawGeometry) (old new : BackingState) (before : Running) : Type 0 where
+pub record IsCalm (geo : RawGeometry) (old new : BackingState) (before : ScriptRunning) : Type 0 where
   pub was : old.mode ≡ ReadWrite
   pub is : new.mode ≡ ReadWrite
   pub faults_were : old.faults ≡ 0
@@ -92,11 +92,11 @@ asks_of old new kept need (Write slot offs len byte) sides h = inl refl
 asks_of old new kept need op sides h = inr refl
 
 -- the reply's cause, of those that are left
-cause_of : (geo : RawGeometry) (old new : BackingState) (kept : Kept) (before after : Running) (caller : ℕ) (op : Op) (reply : Reply) → IsCalm geo old new before
+cause_of : (geo : RawGeometry) (old new : BackingState) (kept : Kept) (before after : ScriptRunning) (caller : ℕ) (op : Op) (reply : Reply) → IsCalm geo old new before
     → ((need : Need) (sides : NoSpace) → IsWithoutRoom old new kept need (Enospc sides) → HasNoRoom geo after need sides)
     → is_memory reply ≡ false → (r : Refusal) → reply ≡ Refused r
     → (allowed_on old before.files caller before.now op ≡ Err r) ⊎ (IsTurnedDown old new kept (asked before.files caller before.now 0 op) op r × IsLast (allowed_on old before.files caller before.now op) r)
-    → ((refusal : Refusal) × (plain geo before caller op ≡ Err refusal) × (reply ≡ Refused refusal)) ⊎ IsFull geo before caller op reply after
+    → ((refusal : Refusal) × (plain geo before caller op ≡ Err refusal) × (reply ≡ Refused refusal)) ⊎ IsRefusedForRoom geo before caller op reply after
 cause_of geo old new kept before after caller op reply calm room known r told (inl e) = inl (r, sym (plainly geo old before caller op calm.limit calm.orphans) ∙ e, told)
 cause_of geo old new kept before after caller op reply calm room known (Enospc sides) told (inr (turned, last)) = inr (record {
   sides = sides;
@@ -112,9 +112,9 @@ cause_of geo old new kept before after caller op reply calm room known (Erofs ca
 cause_of geo old new kept before after caller op reply calm room known Enomem told (inr (turned, last)) = absurd (false≢true (sym known ∙ ap is_memory told))
 cause_of geo old new kept before after caller op reply calm room known r told (inr (turned, last)) = absurd (turned_room old new kept (asked before.files caller before.now 0 op) op r turned)
 
-pub answer_of : (geo : RawGeometry) (old new : BackingState) (kept : Kept) (before after : Running) (caller : ℕ) (op : Op) (reply : Reply) (first last : List NoSpace) → IsCalm geo old new before
+pub answer_of : (geo : RawGeometry) (old new : BackingState) (kept : Kept) (before after : ScriptRunning) (caller : ℕ) (op : Op) (reply : Reply) (first last : List NoSpace) → IsCalm geo old new before
     → ((need : Need) (sides : NoSpace) → IsWithoutRoom old new kept need (Enospc sides) → HasNoRoom geo after need sides)
-    → is_memory reply ≡ false → present new.tree kept ≡ after.files → IsAnswered old new kept before.files caller before.now 0 op reply first last → IsAnswer geo before caller op reply after
+    → is_memory reply ≡ false → present new.tree kept ≡ after.files → IsAnswered old new kept before.files caller before.now 0 op reply first last → IsScriptAnswer geo before caller op reply after
 answer_of geo old new kept before after caller op reply first last calm room known seen (inl (open_is, done, same)) =
     let Q : Files → Type 0 = λ files. IsDone (plain geo before caller op) files reply in
     inl (subst Q seen (subst (λ outcome. IsDone outcome (present new.tree kept) reply) (plainly geo old before caller op calm.limit calm.orphans) done))
@@ -131,11 +131,11 @@ pub grows_of : (a b m n more : ℕ) → a ≡ m → b ≡ n → n ≤ m + more �
 grows_of a b m n more e f h = omega (arith, e, f, h)
 
 -- the two sides are those of the present tree and its index, where no page is dirty
-pub no_room : (geo : RawGeometry) (old : BackingState) (new : PlainBacking) (kept : Kept) (now : ℕ) → IsSteady geo new kept → IsKept (state_of new).tree kept
-    → (IsKept (state_of new).tree kept → kept.pages.dirty ≡ [] → (present (state_of new).tree kept).tree ≡ (state_of new).tree)
-    → (need : Need) (sides : NoSpace) → IsWithoutRoom old (state_of new) kept need (Enospc sides) → HasNoRoom geo (mounted_over new kept now) need sides
+pub no_room : (geo : RawGeometry) (old : BackingState) (new : PlainBacking) (kept : Kept) (now : ℕ) → IsSteady geo new kept → IsKept (backing_state_of new).tree kept
+    → (IsKept (backing_state_of new).tree kept → kept.pages.dirty ≡ [] → (present (backing_state_of new).tree kept).tree ≡ (backing_state_of new).tree)
+    → (need : Need) (sides : NoSpace) → IsWithoutRoom old (backing_state_of new) kept need (Enospc sides) → HasNoRoom geo (mounted_over new kept now) need sides
 no_room geo old new kept now steady fits clean need sides h =
-    let state = state_of new in
+    let state = backing_state_of new in
     let here = mounted_over new kept now in
     let none : length kept.pages.dirty ≡ 0 = ap (λ dirty. length dirty) h.3 in
     let credits : state.space.credits ≡ 0 = steady.credits ∙ none in
@@ -154,25 +154,25 @@ no_count a count b e (inl less) few = omega (arith, e, less, few)
 no_count a count b e (inr most) few = omega (arith, e, most, few)
 
 -- a backing that doesn't fail stays writable
-still_writable : (n : ℕ) (old : BackingState) (new : PlainBacking) → Goes n old (state_of new) → old.mode ≡ ReadWrite → old.faults ≡ 0 → (state_of new).faults ≡ 0 → (state_of new).mode ≡ ReadWrite
+still_writable : (n : ℕ) (old : BackingState) (new : PlainBacking) → Goes n old (backing_state_of new) → old.mode ≡ ReadWrite → old.faults ≡ 0 → (backing_state_of new).faults ≡ 0 → (backing_state_of new).mode ≡ ReadWrite
 still_writable n old new goes was none still = by goes.mode
   where
-    by : ModeGoes old (state_of new) → (state_of new).mode ≡ ReadWrite
+    by : ModeGoes old (backing_state_of new) → (backing_state_of new).mode ≡ ReadWrite
     by (inl same) = same ∙ was
-    by (inr (open_was, inl lost)) = absurd (no_count old.faults lost.0 (state_of new).faults still lost.2 lost.3)
+    by (inr (open_was, inl lost)) = absurd (no_count old.faults lost.0 (backing_state_of new).faults still lost.2 lost.3)
     by (inr (open_was, inr lost)) = absurd (false≢true (sym new.unspent ∙ ap is_spent lost.2))
 
 -- what a run keeps of its backing stays over a step
-pub steady_next : (geo : RawGeometry) (old new : PlainBacking) (before after : Kept) (n left : ℕ) → IsSteady geo old before → Goes n (state_of old) (state_of new)
-    → SureGoes (outlook_of old) (outlook_of new) (state_of old) (state_of new)
-    → ((state_of new).space.credits + length before.pages.dirty + 0 ≡ (state_of old).space.credits + length after.pages.dirty + left) → left ≤ 0 → IsSteady geo new after
+pub steady_next : (geo : RawGeometry) (old new : PlainBacking) (before after : Kept) (n left : ℕ) → IsSteady geo old before → Goes n (backing_state_of old) (backing_state_of new)
+    → SureGoes (outlook_of old) (outlook_of new) (backing_state_of old) (backing_state_of new)
+    → ((backing_state_of new).space.credits + length before.pages.dirty + 0 ≡ (backing_state_of old).space.credits + length after.pages.dirty + left) → left ≤ 0 → IsSteady geo new after
 steady_next geo old new before after n left steady goes sure issued none = by (sure.sure (steady.strike, steady.covers))
   where
-    by : ⊥ ⊎ (((new.numbers.strike ≡ 0) × Covers (state_of new)) × ((state_of new).faults ≡ (state_of old).faults)) → IsSteady geo new after
+    by : ⊥ ⊎ (((new.numbers.strike ≡ 0) × Covers (backing_state_of new)) × ((backing_state_of new).faults ≡ (backing_state_of old).faults)) → IsSteady geo new after
     by (inl spent) = absurd spent
     by (inr ((strike, covers), same)) = record {
       geometry = goes.geometry ∙ steady.geometry;
-      mode = still_writable n (state_of old) new goes steady.mode steady.faults (same ∙ steady.faults);
+      mode = still_writable n (backing_state_of old) new goes steady.mode steady.faults (same ∙ steady.faults);
       faults = same ∙ steady.faults;
       strike = strike;
       covers = covers;

@@ -21,19 +21,19 @@ use Rattle.buffered_files.specs.declared.kept.Kept.{Kept}
 use Rattle.buffered_files.specs.Calls.{full_weight}
 use Rattle.buffered_files.specs.Present.{IsKept, present}
 use Rattle.plain_backing.specs.declared.backing.PlainBacking.{PlainBacking}
-use Rattle.plain_backing.specs.PlainBacking.{outlook_of, state_of}
+use Rattle.plain_backing.specs.PlainBacking.{outlook_of, backing_state_of}
 use Rattle.vfs_ops.specs.FilesState.{FilesState}
 use Rattle.traced_files.specs.History.{first_place, opening_of}
 use Rattle.traced_files.specs.Seen.{LeavesSeen}
 use Rattle.script_phase.specs.declared.lines.CallerLine.{CallerLine}
 use Rattle.script_phase.specs.Phases.{HasSameLimits, IsOneTrace, IsUnfailing, callers_in}
 use Rattle.script_run.specs.Phases.{AreServedTogether, opened_on, trace_text}
-use Rattle.script_run.specs.Run.{Running, orphans_told}
+use Rattle.script_run.specs.Run.{ScriptRunning, orphans_told}
 use Rattle.script_run.specs.Sessions.{IsSteady, IsWaiting}
 
 -- files over a plain backing, and the opening of a phase over them
 abbrev pub over : PlainBacking → Kept → List NoSpace → FilesState
-over backing kept refused = record { backing = state_of backing; kept = kept; refused = refused }
+over backing kept refused = record { backing = backing_state_of backing; kept = kept; refused = refused }
 
 abbrev pub opened_over : PlainBacking → Kept → List NoSpace → ℕ → Opening
 opened_over backing kept refused callers = opening_of (over backing kept refused) (outlook_of backing) callers
@@ -90,14 +90,14 @@ lines_as a b eq mode place (line ∷ lines) last (number, after, how, rest) =
     (number, after, line_as a b eq place mode line after how, lines_as a b eq mode (behind place line after) lines last rest)
 
 -- where a script is over this backing
-abbrev pub running_over : PlainBacking → Kept → Bool → ℕ → ℕ → ℕ → Running
+abbrev pub running_over : PlainBacking → Kept → Bool → ℕ → ℕ → ℕ → ScriptRunning
 running_over backing kept mounted now number workers = record {
-  files = present (state_of backing).tree kept;
-  stored = (state_of backing).tree;
-  journal = (state_of backing).journal;
-  weight = full_weight (state_of backing) kept;
-  index = (state_of backing).space.index;
-  closed = (state_of backing).closed;
+  files = present (backing_state_of backing).tree kept;
+  stored = (backing_state_of backing).tree;
+  journal = (backing_state_of backing).journal;
+  weight = full_weight (backing_state_of backing) kept;
+  index = (backing_state_of backing).space.index;
+  closed = (backing_state_of backing).closed;
   mounted = mounted;
   now = now;
   number = number;
@@ -106,28 +106,28 @@ running_over backing kept mounted now number workers = record {
 
 -- how many numbers a list of orphans has is told of the files as of the backing
 abbrev pub HasSameNameless : PlainBacking → Kept → Type 0
-HasSameNameless backing kept = length (nameless (present (state_of backing).tree kept).tree) ≡ length (nameless (state_of backing).tree)
+HasSameNameless backing kept = length (nameless (present (backing_state_of backing).tree kept).tree) ≡ length (nameless (backing_state_of backing).tree)
 
 -- what is told of an opening over a backing is what the script knows of it
-much_as : (old : PlainBacking) (before : Kept) (noted : List NoSpace) (mounted : Bool) (now number workers callers : ℕ) → IsSteady (state_of old).geometry old before → HasSameNameless old before
-    → IsAsMuch (opened_over old before noted callers) (opened_on (state_of old).geometry callers (running_over old before mounted now number workers))
+much_as : (old : PlainBacking) (before : Kept) (noted : List NoSpace) (mounted : Bool) (now number workers callers : ℕ) → IsSteady (backing_state_of old).geometry old before → HasSameNameless old before
+    → IsAsMuch (opened_over old before noted callers) (opened_on (backing_state_of old).geometry callers (running_over old before mounted now number workers))
 much_as old before noted mounted now number workers callers steady none = record {
   asked = λ place line. refl;
   weight = λ lines. omega arith;
   room = λ weight need. refl;
-  orphan_room = ap (λ (n : ℕ). n - next_orphans (state_of old)) steady.orphans ∙ ap (λ (n : ℕ). orphan_limit (state_of old).geometry.leb_size - (n + (state_of old).closed)) (sym none);
+  orphan_room = ap (λ (n : ℕ). n - next_orphans (backing_state_of old)) steady.orphans ∙ ap (λ (n : ℕ). orphan_limit (backing_state_of old).geometry.leb_size - (n + (backing_state_of old).closed)) (sym none);
   orphan_limit = steady.orphans;
 }
 
 -- a phase of many callers, from its trace
 pub at_once_of : (old new : PlainBacking) (before after : Kept) (noted refused : List NoSpace) (mounted : Bool) (now number workers : ℕ) (lines : List CallerLine) (trace : List TraceLine)
-    → IsSteady (state_of old).geometry old before → IsSteady (state_of old).geometry new after → HasSameNameless old before → HasSameNameless new after → IsKept (state_of new).tree after → ((tree : Tree) (kept : Kept) → IsKept tree kept → kept.pages.dirty ≡ [] → (present tree kept).tree ≡ tree)
-    → LeavesSeen (present (state_of old).tree before) (state_of old).journal trace (state_of new).journal → IsOneTrace (opened_over old before noted (callers_in lines)) now lines trace (over new after refused)
-    → AreServedTogether (state_of old).geometry (running_over old before mounted now number workers) lines (trace_text trace) (running_over new after mounted now 0 workers)
+    → IsSteady (backing_state_of old).geometry old before → IsSteady (backing_state_of old).geometry new after → HasSameNameless old before → HasSameNameless new after → IsKept (backing_state_of new).tree after → ((tree : Tree) (kept : Kept) → IsKept tree kept → kept.pages.dirty ≡ [] → (present tree kept).tree ≡ tree)
+    → LeavesSeen (present (backing_state_of old).tree before) (backing_state_of old).journal trace (backing_state_of new).journal → IsOneTrace (opened_over old before noted (callers_in lines)) now lines trace (over new after refused)
+    → AreServedTogether (backing_state_of old).geometry (running_over old before mounted now number workers) lines (trace_text trace) (running_over new after mounted now 0 workers)
 at_once_of old new before after noted refused mounted now number workers lines trace was is none_before none_after fits clean left h =
     let callers = callers_in lines in
     let a = opened_over old before noted callers in
-    let geo = (state_of old).geometry in
+    let geo = (backing_state_of old).geometry in
     let b = opened_on geo callers (running_over old before mounted now number workers) in
     let much = much_as old before noted mounted now number workers callers was none_before in
     record {
@@ -143,12 +143,12 @@ at_once_of old new before after noted refused mounted now number workers lines t
       same = h.same;
       under = record { kept = after; fits = fits; seen = refl };
       left = left;
-      flushed = λ behind. sym (clean (state_of new).tree after fits (h.flushed behind));
+      flushed = λ behind. sym (clean (backing_state_of new).tree after fits (h.flushed behind));
       weight = let grown = h.grown in omega (arith, grown);
-      index = subst (λ (w : ℕ). (state_of new).space.index ≤ max (state_of old).space.index (2 * index_lebs geo w)) (much.weight trace) h.weight.index;
+      index = subst (λ (w : ℕ). (backing_state_of new).space.index ≤ max (backing_state_of old).space.index (2 * index_lebs geo w)) (much.weight trace) h.weight.index;
       orphans = subst (λ (room : ℕ). room ≤ (orphan_limit geo.leb_size - orphans_told (running_over new after mounted now 0 workers)) + h.last.orphans) much.orphan_room
           (subst (λ (room : ℕ). a.orphan_room ≤ room + h.last.orphans)
-          (ap (λ (n : ℕ). n - next_orphans (state_of new)) is.orphans ∙ ap (λ (n : ℕ). orphan_limit geo.leb_size - (n + (state_of new).closed)) (sym none_after)) h.orphans);
+          (ap (λ (n : ℕ). n - next_orphans (backing_state_of new)) is.orphans ∙ ap (λ (n : ℕ). orphan_limit geo.leb_size - (n + (backing_state_of new).closed)) (sym none_after)) h.orphans);
       rest = refl;
     }
 

@@ -4,10 +4,10 @@ use Rattle.ubifs_base.specs.declared.raw_geometry.RawGeometry.{RawGeometry}
 use Rattle.ubifs_base.specs.Areas.{main_lebs}
 use Rattle.plain_backing.specs.Covering.{IsCovering}
 use Rattle.script_run.specs.declared.session.Session.{Session}
-use Rattle.script_run.specs.Covered.{IsCovered}
+use Rattle.script_run.specs.Covered.{IsScriptCovered}
 use Rattle.script_run.specs.Sessions.{IsSession, running_of, state_in}
 
-pub session_covers : (geo : RawGeometry) (session : Session) → IsSession geo session → IsCovered geo (running_of session)
+pub session_covers : (geo : RawGeometry) (session : Session) → IsSession geo session → IsScriptCovered geo (running_of session)
 session_covers geo session is =
     let steady = is.steady in
     record {

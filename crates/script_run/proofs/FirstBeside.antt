@@ -24,7 +24,7 @@ use Rattle.script_phase.specs.declared.lines.CallerLine.{CallerLine}
 use Rattle.script_phase.specs.Phases.{callers_in, is_memory, ops_by, traced_by}
 use Rattle.script_run.specs.Heaviest.{one_create, worked_geometry}
 use Rattle.script_run.specs.Phases.{ArePhases, AreServedTogether, IsPhase, opened_on, place_at, trace_text}
-use Rattle.script_run.specs.Run.{Running, opening}
+use Rattle.script_run.specs.Run.{ScriptRunning, opening}
 
 abbrev creating : Op
 creating = Create (codes "/f") 420
@@ -33,7 +33,7 @@ abbrev one_line : List CallerLine
 one_line = (record { caller = 1; op = creating }) ∷ []
 
 -- where the script is before it
-abbrev beside : Journal → Running
+abbrev beside : Journal → ScriptRunning
 beside journal = record (opening journal) { mounted = true; number = 0; workers = 1 }
 
 abbrev opened : Journal → Opening
@@ -118,7 +118,7 @@ replied journal number reply after memory (inl plain) = plain.told
 replied journal number reply after memory (inr refused) = absurd (not_full journal number reply refused.refusal memory refused.told refused.why)
 
 -- what is printed of the phase
-shown : (journal : Journal) (text : List ℕ) (last : Running) → AreServedTogether worked_geometry (beside journal) one_line text last → text ≡ reply_line 1 1 (Ino 65)
+shown : (journal : Journal) (text : List ℕ) (last : ScriptRunning) → AreServedTogether worked_geometry (beside journal) one_line text last → text ≡ reply_line 1 1 (Ino 65)
 shown journal text last h =
     let one = one_traced h.trace h.own in
     let l = one.line in
@@ -130,11 +130,11 @@ shown journal text last h =
     let reply : l.reply ≡ Ino 65 = replied journal l.number l.reply lines.1 memory lines.2 in
     h.printed ∙ ap trace_text one.all ∙ append-nil (reply_line l.caller l.number l.reply) ∙ (λ i. reply_line (one.caller i) (lines.0 i) (reply i))
 
-pub first_text_beside : (journal : Journal) (text : List ℕ) (last : Running) → ArePhases worked_geometry (opening journal) [] (Workers 1 ∷ one_create) text last → text ≡ ended (codes "mount rw") ++ reply_line 1 1 (Ino 65)
+pub first_text_beside : (journal : Journal) (text : List ℕ) (last : ScriptRunning) → ArePhases worked_geometry (opening journal) [] (Workers 1 ∷ one_create) text last → text ≡ ended (codes "mount rw") ++ reply_line 1 1 (Ino 65)
 first_text_beside journal text last (front, next, rest, turn, (front_too, next_too, rest_too, turn_too, phase, all_too), all) =
-    let here : next ≡ record (opening journal) { workers = 1; number = 0 } = turn.control.1 ∙ ap (λ (s : Running). record s { workers = 1; number = 0 }) turn.phase.1 in
-    let there : next_too ≡ beside journal = turn_too.control.1 ∙ ap (λ (s : Running). record s { mounted = true; number = 0 }) (turn_too.phase.1 ∙ here) in
-    let served : AreServedTogether worked_geometry (beside journal) one_line rest_too last = subst (λ (s : Running). IsPhase worked_geometry s one_line rest_too last) there phase in
+    let here : next ≡ record (opening journal) { workers = 1; number = 0 } = turn.control.1 ∙ ap (λ (s : ScriptRunning). record s { workers = 1; number = 0 }) turn.phase.1 in
+    let there : next_too ≡ beside journal = turn_too.control.1 ∙ ap (λ (s : ScriptRunning). record s { mounted = true; number = 0 }) (turn_too.phase.1 ∙ here) in
+    let served : AreServedTogether worked_geometry (beside journal) one_line rest_too last = subst (λ (s : ScriptRunning). IsPhase worked_geometry s one_line rest_too last) there phase in
     let none : front ≡ [] = turn.printed ∙ (ap (λ (t : List ℕ). t ++ turn.line) turn.phase.0 ∙ turn.control.0) in
     let mounted : front_too ≡ ended (codes "mount rw") = turn_too.printed ∙ (ap (λ (t : List ℕ). t ++ turn_too.line) turn_too.phase.0 ∙ turn_too.control.0) in
     all ∙ (ap (λ (t : List ℕ). t ++ rest) none ∙ (all_too ∙ (λ i. mounted i ++ shown journal rest_too last served i)))

@@ -20,9 +20,9 @@ use Rattle.script_text.specs.Reply.{reply_line}
 use Rattle.text_lines.specs.Lines.{ended}
 use Rattle.vfs_ops.specs.Steps.{IsDone}
 use Rattle.script_run.specs.Heaviest.{one_create, worked_geometry}
-use Rattle.script_run.specs.Run.{HasGrown, HasNoRoom, IsAnswer, IsFull, IsReplied, IsRun, IsServed, Running, nodes_added, nodes_for, opening, plain}
+use Rattle.script_run.specs.Run.{HasGrown, HasNoRoom, IsScriptAnswer, IsRefusedForRoom, IsReplied, IsRun, IsLineServed, ScriptRunning, nodes_added, nodes_for, opening, plain}
 
-abbrev mounted : Journal → Running
+abbrev mounted : Journal → ScriptRunning
 mounted journal = record (opening journal) { mounted = true; number = 0 }
 
 abbrev creating : Op
@@ -49,7 +49,7 @@ fresh_bytes files same =
     ∙ ap (λ entries. one (record files.tree { inodes = fresh.tree.inodes; blocks = []; entries = entries })) (sym same.entries)
 
 -- nor is there no room
-not_full : (journal : Journal) (reply : Reply) (last : Running) → IsAlike fresh last.files → HasGrown worked_geometry (nodes_added (mounted journal) 1 creating reply) (nodes_for (mounted journal) 1 creating) (mounted journal) last → IsFull worked_geometry (mounted journal) 1 creating reply last → ⊥
+not_full : (journal : Journal) (reply : Reply) (last : ScriptRunning) → IsAlike fresh last.files → HasGrown worked_geometry (nodes_added (mounted journal) 1 creating reply) (nodes_for (mounted journal) 1 creating) (mounted journal) last → IsRefusedForRoom worked_geometry (mounted journal) 1 creating reply last → ⊥
 not_full journal reply last same grown full =
     let room : HasNoRoom worked_geometry last (record { credits = 0; bytes = 384; nodes = 3; class = Ordinary }) full.sides = full.room in
     let P : Reply → Type 0 = λ r. HasGrown worked_geometry (nodes_added (mounted journal) 1 creating r) 3 (mounted journal) last in
@@ -63,22 +63,22 @@ not_full journal reply last same grown full =
     let d = room.full in
     absurd (omega (arith, a, b, d, used, index, lebs))
 
-first_reply : (journal : Journal) (reply : Reply) (last : Running) → IsReplied worked_geometry (mounted journal) 1 creating reply last → reply ≡ Ino 65
+first_reply : (journal : Journal) (reply : Reply) (last : ScriptRunning) → IsReplied worked_geometry (mounted journal) 1 creating reply last → reply ≡ Ino 65
 first_reply journal reply last h = by h.answer
   where
-    by : IsAnswer worked_geometry (mounted journal) 1 creating reply last → reply ≡ Ino 65
+    by : IsScriptAnswer worked_geometry (mounted journal) 1 creating reply last → reply ≡ Ino 65
     by (inl done) = done_reply journal last.files reply done
     by (inr refusal) = elim refusal.why [
       | inl plainly ↦ absurd (not_refused journal plainly.0 plainly.1)
       | inr full ↦ absurd (not_full journal reply last refusal.same h.grown full)
     ]
 
-first_line : (journal : Journal) (line : List ℕ) (last : Running) → IsServed worked_geometry (mounted journal) 1 creating line last → line ≡ reply_line 1 1 (Ino 65)
+first_line : (journal : Journal) (line : List ℕ) (last : ScriptRunning) → IsLineServed worked_geometry (mounted journal) 1 creating line last → line ≡ reply_line 1 1 (Ino 65)
 first_line journal line last h = h.printed ∙ ap (λ reply. reply_line 1 1 reply) (first_reply journal h.reply last h.replied)
 
-pub first_text : (journal : Journal) (text : List ℕ) (last : Running) → IsRun worked_geometry (opening journal) one_create text last → text ≡ ended (codes "mount rw") ++ reply_line 1 1 (Ino 65)
+pub first_text : (journal : Journal) (text : List ℕ) (last : ScriptRunning) → IsRun worked_geometry (opening journal) one_create text last → text ≡ ended (codes "mount rw") ++ reply_line 1 1 (Ino 65)
 first_text journal text last (line, next, rest, (shown, is), (after, behind, none, served, ended_is, joined), all) =
-    let P : Running → Type 0 = λ here. IsServed worked_geometry here 1 creating after behind in
+    let P : ScriptRunning → Type 0 = λ here. IsLineServed worked_geometry here 1 creating after behind in
     let reply = first_line journal after behind (subst P is served) in
     let last_is : rest ≡ reply_line 1 1 (Ino 65) = joined ∙ ap (λ (t : List ℕ). after ++ t) ended_is.0 ∙ append-nil after ∙ reply in
     all ∙ ap (λ (t : List ℕ). t ++ rest) shown ∙ ap (λ (t : List ℕ). ended (codes "mount rw") ++ t) last_is

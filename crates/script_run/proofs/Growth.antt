@@ -5,7 +5,7 @@ use Rattle.fs_model.specs.Backing.{BackingState, Goes}
 use Rattle.buffered_files.specs.declared.kept.Kept.{Kept}
 use Rattle.buffered_files.specs.Calls.{GrowsBy}
 use Rattle.plain_backing.specs.declared.backing.PlainBacking.{PlainBacking}
-use Rattle.plain_backing.specs.PlainBacking.{state_of}
+use Rattle.plain_backing.specs.PlainBacking.{backing_state_of}
 use Rattle.space_sums.proofs.Index.{index_lebs-grows}
 use Rattle.vfs_ops.specs.declared.event.Event.{Event}
 use Rattle.vfs_ops.specs.declared.event.Event.TheVariants.{Put}
@@ -13,21 +13,21 @@ use Rattle.vfs_ops.specs.declared.event.Outcome.{Outcome}
 use Rattle.vfs_ops.specs.declared.event.Outcome.TheVariants.{Fault}
 use Rattle.fs_model.specs.declared.backing_answers.StoreFault.TheVariants.{Volume}
 use Rattle.vfs_ops.specs.Background.{added_in, is_work, nodes_in}
-use Rattle.script_run.specs.Run.{HasGrown, Running}
+use Rattle.script_run.specs.Run.{HasGrown, ScriptRunning}
 use Rattle.script_run.specs.Sessions.{mounted_over}
 
 -- over a step that puts so many nodes
-pub grown_of : (old new : PlainBacking) (before after : Kept) (now added put n : ℕ) → GrowsBy added (state_of old) (state_of new) before after → Goes n (state_of old) (state_of new)
-    → n ≤ 2 * length before.pages.dirty + put → HasGrown (state_of old).geometry added put (mounted_over old before now) (mounted_over new after now)
+pub grown_of : (old new : PlainBacking) (before after : Kept) (now added put n : ℕ) → GrowsBy added (backing_state_of old) (backing_state_of new) before after → Goes n (backing_state_of old) (backing_state_of new)
+    → n ≤ 2 * length before.pages.dirty + put → HasGrown (backing_state_of old).geometry added put (mounted_over old before now) (mounted_over new after now)
 grown_of old new before after now added put n grows goes few =
-    let geo = (state_of old).geometry in
-    let weight = (state_of old).space.weight in
+    let geo = (backing_state_of old).geometry in
+    let weight = (backing_state_of old).space.weight in
     let lebs = index_lebs-grows geo (weight + n) (weight + 2 * length before.pages.dirty + put) (omega (arith, few)) in
     let index = goes.index in
     record { weight = grows; index = omega (arith, index, lebs) }
 
 -- one after another
-pub grown_then : (geo : RawGeometry) (a b c : Running) → HasGrown geo 0 0 a b → HasGrown geo 0 0 b c → HasGrown geo 0 0 a c
+pub grown_then : (geo : RawGeometry) (a b c : ScriptRunning) → HasGrown geo 0 0 a b → HasGrown geo 0 0 b c → HasGrown geo 0 0 a c
 grown_then geo a b c first second =
     let one = first.weight in
     let two = second.weight in
@@ -37,7 +37,7 @@ grown_then geo a b c first second =
     record { weight = omega (arith, one, two); index = omega (arith, x, y, lebs) }
 
 -- a backing made anew on a tree, with the index of the one before
-pub grown_anew : (geo : RawGeometry) (old new : PlainBacking) (before after : Kept) → (state_of new).space.weight ≡ (state_of old).space.weight → (state_of new).space.index ≡ (state_of old).space.index → after.pages.dirty ≡ []
+pub grown_anew : (geo : RawGeometry) (old new : PlainBacking) (before after : Kept) → (backing_state_of new).space.weight ≡ (backing_state_of old).space.weight → (backing_state_of new).space.index ≡ (backing_state_of old).space.index → after.pages.dirty ≡ []
     → HasGrown geo 0 0 (mounted_over old before 0) (mounted_over new after 0)
 grown_anew geo old new before after weight index clean =
     let none : length after.pages.dirty ≡ 0 = ap (λ dirty. length dirty) clean in

@@ -12,23 +12,23 @@ use Rattle.fs_model.specs.Orphan.{without_nameless}
 use Rattle.fs_model.specs.Recovery.{Head, IsRecovered}
 use Rattle.buffered_files.specs.Cuts.{TreePlace, Value, ValuesOf, value_at}
 use Rattle.plain_backing.specs.declared.backing.PlainBacking.{PlainBacking}
-use Rattle.plain_backing.specs.PlainBacking.{new_state, state_of}
+use Rattle.plain_backing.specs.PlainBacking.{new_state, backing_state_of}
 use Rattle.plain_backing.specs.Story.{medium_of}
 use Rattle.plain_backing.specs.StoryLaws.{story_journal}
-use Rattle.traced_files.specs.History.{files_after, files_behind}
+use Rattle.traced_files.specs.History.{files_after_line, files_behind}
 use Rattle.traced_files.specs.Seen.{LeavesSeen, ValuesBefore, WasSeen, is_unflushed}
 use Rattle.script_run.specs.Run.{LeavesOnly}
 
 -- what a backing tells of its journal is so of its tree
-pub told_journal : (backing : PlainBacking) → IfTold (state_of backing).journal (IsJournalOf (state_of backing).tree)
+pub told_journal : (backing : PlainBacking) → IfTold (backing_state_of backing).journal (IsJournalOf (backing_state_of backing).tree)
 told_journal backing = story_journal backing.tree backing.story.value backing.told
 
 -- a cut may leave the tree
-pub stored_left : (backing : PlainBacking) → MayLeave (state_of backing).journal (without_nameless (state_of backing).tree)
+pub stored_left : (backing : PlainBacking) → MayLeave (backing_state_of backing).journal (without_nameless (backing_state_of backing).tree)
 stored_left backing = ((medium_of backing.story.value).heads, refl, (told_journal backing).left)
 
 -- of a tree on which nothing was put it leaves nothing else
-pub new_leaves : (backing : PlainBacking) (geo : RawGeometry) (tree : Tree) (space : Space) (room : ℕ) (mode : Mode) → state_of backing ≡ new_state geo tree space room mode → LeavesOnly (state_of backing).journal tree
+pub new_leaves : (backing : PlainBacking) (geo : RawGeometry) (tree : Tree) (space : Space) (room : ℕ) (mode : Mode) → backing_state_of backing ≡ new_state geo tree space room mode → LeavesOnly (backing_state_of backing).journal tree
 new_leaves backing geo tree space room mode new left (heads, same, may) =
     let medium = medium_of backing.story.value in
     let P : BackingState → Type 0 = λ state. IfTold state.journal (λ m. AreSynced m.heads) in
@@ -44,7 +44,7 @@ seen_numbered files line n place value [] rest all still is =
     record { first = []; rest = record line { number = n } ∷ []; all = refl; unflushed = at.0; seen = at.1 }
 seen_numbered files line n place value (x ∷ []) [] all still is =
     let same : line ≡ x = cc in
-    let P : TraceLine → Type 0 = λ l. ValuesOf (files_after files l).tree place value in
+    let P : TraceLine → Type 0 = λ l. ValuesOf (files_after_line files l).tree place value in
     record { first = record line { number = n } ∷ []; rest = []; all = refl; unflushed = refl; seen = subst P (sym same) is }
 seen_numbered files line n place value (x ∷ []) (y ∷ rest) all still is = absurd cc
 seen_numbered files line n place value (x ∷ y ∷ first) rest all still is = absurd cc

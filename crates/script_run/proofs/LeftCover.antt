@@ -16,7 +16,7 @@ use Rattle.space_sums.specs.Spaces.{AsksNoLess, HasRoom}
 use Rattle.plain_backing.specs.declared.backing.PlainBacking.{PlainBacking}
 use Rattle.plain_backing.specs.Covering.{IsCovering, granted_need, leaf_count}
 use Rattle.plain_backing.proofs.Covers.{bytes_less, leaves_less}
-use Rattle.plain_backing.specs.PlainBacking.{Covers, state_of}
+use Rattle.plain_backing.specs.PlainBacking.{Covers, backing_state_of}
 use Rattle.script_run.specs.Played.{IsCoveredIn}
 
 -- what is left without some inodes
@@ -58,11 +58,11 @@ named_covers_in geo tree space grant used law proper h =
     }
 
 -- a backing all of whose promises have room, mounted again without what has no name
-pub named_covers : (geo : RawGeometry) (backing : PlainBacking) (space : Space) (tree named : Tree) → (state_of backing).geometry ≡ geo → space ≡ (state_of backing).space → tree ≡ (state_of backing).tree → named ≡ without_nameless tree
+pub named_covers : (geo : RawGeometry) (backing : PlainBacking) (space : Space) (tree named : Tree) → (backing_state_of backing).geometry ≡ geo → space ≡ (backing_state_of backing).space → tree ≡ (backing_state_of backing).tree → named ≡ without_nameless tree
     → ((g : RawGeometry) (less more : Space) (asked asked_more : Need) → AsksNoLess less asked more asked_more → HasRoom g more asked_more → HasRoom g less asked)
-    → IsProper named → Covers (state_of backing) → IsCovering geo named (record space { used = tree_bytes named; held = 0 }) None
+    → IsProper named → Covers (backing_state_of backing) → IsCovering geo named (record space { used = tree_bytes named; held = 0 }) None
 named_covers geo backing space tree named same is stored gone law proper covers =
-    let state = state_of backing in
+    let state = backing_state_of backing in
     let all : named ≡ without_nameless state.tree = gone ∙ ap without_nameless stored in
     let P : Tree → Type 0 = λ t. IsProper t in
     let Q : RawGeometry → Type 0 = λ g. IsCovering g (without_nameless state.tree) (record state.space { used = tree_bytes (without_nameless state.tree); held = 0 }) None in
@@ -71,10 +71,10 @@ named_covers geo backing space tree named same is stored gone law proper covers 
     subst S (sym is) (subst R (sym all) (subst Q same (named_covers_in state.geometry state.tree state.space state.grant refl law (subst P all proper) covers)))
 
 -- a tree without what has no name has room, with the space that its backing had
-pub named_in : (geo : RawGeometry) (backing : PlainBacking) (tree named : Tree) → (state_of backing).geometry ≡ geo → tree ≡ (state_of backing).tree → named ≡ without_nameless tree
+pub named_in : (geo : RawGeometry) (backing : PlainBacking) (tree named : Tree) → (backing_state_of backing).geometry ≡ geo → tree ≡ (backing_state_of backing).tree → named ≡ without_nameless tree
     → ((g : RawGeometry) (less more : Space) (asked asked_more : Need) → AsksNoLess less asked more asked_more → HasRoom g more asked_more → HasRoom g less asked)
-    → IsProper named → Covers (state_of backing) → IsCoveredIn geo named
+    → IsProper named → Covers (backing_state_of backing) → IsCoveredIn geo named
 named_in geo backing tree named same stored gone law proper covers =
-    let space = (state_of backing).space in
+    let space = (backing_state_of backing).space in
     let main : space.main ≡ main_lebs geo = ap main_lebs same in
     record { space = record space { used = tree_bytes named; held = 0 }; main = main; used = refl; covers = named_covers geo backing space tree named same refl stored gone law proper covers }

@@ -13,12 +13,12 @@ use Rattle.buffered_files.specs.Alike.{IsAlike}
 use Rattle.script_phase.specs.declared.lines.CallerLine.{CallerLine}
 use Rattle.script_phase.specs.Phases.{callers_in}
 use Rattle.script_run.specs.Phases.{AreServedTogether, left_by, opened_on}
-use Rattle.script_run.specs.Run.{Running}
+use Rattle.script_run.specs.Run.{ScriptRunning}
 
 alike_same : (a b : Files) → IsAlike a b → IsSame a b
 alike_same a b h = record { inodes = ap told_inodes h.inodes; blocks = h.blocks; entries = h.entries; highest = h.highest; handles = h.handles }
 
-pub legal_phase : (geo : RawGeometry) (before after : Running) (lines : List CallerLine) (text : List ℕ) → (phase : AreServedTogether geo before lines text after) → IsLegal (opened_on geo (callers_in lines) before) phase.trace (left_by geo before phase.trace after)
+pub legal_phase : (geo : RawGeometry) (before after : ScriptRunning) (lines : List CallerLine) (text : List ℕ) → (phase : AreServedTogether geo before lines text after) → IsLegal (opened_on geo (callers_in lines) before) phase.trace (left_by geo before phase.trace after)
 legal_phase geo before after lines text phase = record {
   first = phase.trace;
   rest = [];

@@ -8,15 +8,15 @@ use Rattle.script_text.specs.declared.part.Part.TheVariants.{Mount, Unmount, Now
 use Rattle.script_text.specs.Script.{mounted_after}
 use Rattle.script_phase.specs.declared.lines.CallerLine.{CallerLine}
 use Rattle.script_run.specs.Phases.{AreServed, HasAdvanced, IsPhase, IsPhaseOf, ArePhases, IsTurn, ScriptPlace, is_alone}
-use Rattle.script_run.specs.Run.{Running}
+use Rattle.script_run.specs.Run.{ScriptRunning}
 use Rattle.script_run.proofs.Running.{mounted_next}
 
 -- one line more in front of a run
-turned : (geo : RawGeometry) (old new : ScriptPlace) (part : Part) (parts : List Part) (line text : List ℕ) (after : Running) → IsTurn geo old.here old.lines part line new.here → new.lines ≡ [] → ArePhases geo new.here new.lines parts text after
-    → (front : List ℕ) × (next : Running) × (rest : List ℕ) × IsTurn geo old.here old.lines part front next × ArePhases geo next [] parts rest after × (line ++ text ≡ front ++ rest)
+turned : (geo : RawGeometry) (old new : ScriptPlace) (part : Part) (parts : List Part) (line text : List ℕ) (after : ScriptRunning) → IsTurn geo old.here old.lines part line new.here → new.lines ≡ [] → ArePhases geo new.here new.lines parts text after
+    → (front : List ℕ) × (next : ScriptRunning) × (rest : List ℕ) × IsTurn geo old.here old.lines part front next × ArePhases geo next [] parts rest after × (line ++ text ≡ front ++ rest)
 turned geo old new part parts line text after turn none run = (line, new.here, text, turn, subst (λ (ls : List CallerLine). ArePhases geo new.here ls parts text after) none run, refl)
 
-pub advanced : (geo : RawGeometry) (old new : ScriptPlace) (part : Part) (parts : List Part) (line text : List ℕ) (after : Running) → HasAdvanced geo old part line new → ArePhases geo new.here new.lines parts text after
+pub advanced : (geo : RawGeometry) (old new : ScriptPlace) (part : Part) (parts : List Part) (line text : List ℕ) (after : ScriptRunning) → HasAdvanced geo old part line new → ArePhases geo new.here new.lines parts text after
     → ArePhases geo old.here old.lines (part ∷ parts) (line ++ text) after
 advanced geo old new (Line caller op) parts line text after h run =
     let x : CallerLine = record { caller = caller; op = op } in
@@ -27,17 +27,17 @@ advanced geo old new (Now now) parts line text after h run = turned geo old new 
 advanced geo old new (Workers count) parts line text after h run = turned geo old new (Workers count) parts line text after h.0 h.1 run
 
 -- lines that are served leave the volume mounted as it was, and as many workers
-pub served_rest : (geo : RawGeometry) (before after : Running) (lines : List CallerLine) (text : List ℕ) → AreServed geo before lines text after → (after.mounted ≡ before.mounted) × (after.workers ≡ before.workers)
-served_rest geo before after [] text h = (ap (λ (s : Running). s.mounted) h.1, ap (λ (s : Running). s.workers) h.1)
+pub served_rest : (geo : RawGeometry) (before after : ScriptRunning) (lines : List CallerLine) (text : List ℕ) → AreServed geo before lines text after → (after.mounted ≡ before.mounted) × (after.workers ≡ before.workers)
+served_rest geo before after [] text h = (ap (λ (s : ScriptRunning). s.mounted) h.1, ap (λ (s : ScriptRunning). s.workers) h.1)
 served_rest geo before after (line ∷ lines) text (first, next, rest, one, others, e) =
     let more = served_rest geo next after lines rest others in
-    (more.0 ∙ ap (λ (s : Running). s.mounted) one.rest, more.1 ∙ ap (λ (s : Running). s.workers) one.rest)
+    (more.0 ∙ ap (λ (s : ScriptRunning). s.mounted) one.rest, more.1 ∙ ap (λ (s : ScriptRunning). s.workers) one.rest)
 
-phase_rest : (geo : RawGeometry) (before after : Running) (alone : Bool) (lines : List CallerLine) (text : List ℕ) → IsPhaseOf alone geo before lines text after → (after.mounted ≡ before.mounted) × (after.workers ≡ before.workers)
+phase_rest : (geo : RawGeometry) (before after : ScriptRunning) (alone : Bool) (lines : List CallerLine) (text : List ℕ) → IsPhaseOf alone geo before lines text after → (after.mounted ≡ before.mounted) × (after.workers ≡ before.workers)
 phase_rest geo before after true lines text h = served_rest geo before after lines text h
-phase_rest geo before after false lines text h = (ap (λ (s : Running). s.mounted) h.rest, ap (λ (s : Running). s.workers) h.rest)
+phase_rest geo before after false lines text h = (ap (λ (s : ScriptRunning). s.mounted) h.rest, ap (λ (s : ScriptRunning). s.workers) h.rest)
 
-turn_mounts : (geo : RawGeometry) (before after : Running) (lines : List CallerLine) (part : Part) (text : List ℕ) → IsTurn geo before lines part text after → after.mounted ≡ mounted_after before.mounted part
+turn_mounts : (geo : RawGeometry) (before after : ScriptRunning) (lines : List CallerLine) (part : Part) (text : List ℕ) → IsTurn geo before lines part text after → after.mounted ≡ mounted_after before.mounted part
 turn_mounts geo before after lines part text h =
     mounted_next geo h.middle after part h.line h.control ∙ ap (λ (m : Bool). mounted_after m part) (phase_rest geo before h.middle (is_alone before.workers lines) lines h.first h.phase).0
 
@@ -50,11 +50,11 @@ advance_mounts geo old new (Now now) text h = turn_mounts geo old.here new.here 
 advance_mounts geo old new (Workers count) text h = turn_mounts geo old.here new.here old.lines (Workers count) text h.0
 
 -- where nothing is left of a script, its last phase is
-pub run_ends : (geo : RawGeometry) (here after : Running) (lines : List CallerLine) (parts : List Part) (text : List ℕ) → length parts ≡ 0 → IsPhase geo here lines text after → ArePhases geo here lines parts text after
+pub run_ends : (geo : RawGeometry) (here after : ScriptRunning) (lines : List CallerLine) (parts : List Part) (text : List ℕ) → length parts ≡ 0 → IsPhase geo here lines text after → ArePhases geo here lines parts text after
 run_ends geo here after lines [] text none phase = phase
 run_ends geo here after lines (part ∷ parts) text none phase = absurd (omega (arith, none))
 
-pub served_ends : (geo : RawGeometry) (here : Running) (lines : List CallerLine) → length lines ≡ 0 → AreServed geo here lines [] here
+pub served_ends : (geo : RawGeometry) (here : ScriptRunning) (lines : List CallerLine) → length lines ≡ 0 → AreServed geo here lines [] here
 served_ends geo here [] none = (refl, refl)
 served_ends geo here (line ∷ lines) none = absurd (omega (arith, none))
 

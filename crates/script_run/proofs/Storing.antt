@@ -26,7 +26,7 @@ use Rattle.buffered_files.specs.declared.kept.Kept.{Kept}
 use Rattle.buffered_files.specs.Present.{DirtyPages, IsKept, has_dirty, present, with_page}
 use Rattle.buffered_files.proofs.Reading.{Reads-tree, seen_below, seen_kept}
 use Rattle.plain_backing.specs.declared.backing.PlainBacking.{PlainBacking}
-use Rattle.plain_backing.specs.PlainBacking.{state_of}
+use Rattle.plain_backing.specs.PlainBacking.{backing_state_of}
 use Rattle.vfs_ops.specs.Events.{HasSynced}
 use Rattle.vfs_ops.specs.Kinds.{is_late, is_question}
 use Rattle.vfs_ops.specs.Operations.{is_of_names}
@@ -55,11 +55,11 @@ file_stored tree kept ino fits none = record { inode = by (lookup (is_at (nat_cm
     by (Some inode) e = fits.settled ino inode e none ∙ sym (seen_kept tree kept ino inode fits e)
 
 -- after a sync that is done
-pub stored_of : (old new : PlainBacking) (before after : Kept) (now caller : ℕ) (op : Op) (reply : Reply) → IsKept (state_of new).tree after
-    → (IsKept (state_of new).tree after → after.pages.dirty ≡ [] → (present (state_of new).tree after).tree ≡ (state_of new).tree)
-    → HasSynced ReadWrite (state_of new) before after caller op reply → HasStored (mounted_over old before now) caller op reply (mounted_over new after now)
+pub stored_of : (old new : PlainBacking) (before after : Kept) (now caller : ℕ) (op : Op) (reply : Reply) → IsKept (backing_state_of new).tree after
+    → (IsKept (backing_state_of new).tree after → after.pages.dirty ≡ [] → (present (backing_state_of new).tree after).tree ≡ (backing_state_of new).tree)
+    → HasSynced ReadWrite (backing_state_of new) before after caller op reply → HasStored (mounted_over old before now) caller op reply (mounted_over new after now)
 stored_of old new before after now caller Flush Done fits clean h = sym (clean fits h.1)
-stored_of old new before after now caller (Fsync slot) Done fits clean h = λ ino open_is. file_stored (state_of new).tree after ino fits (h.1 ino open_is)
+stored_of old new before after now caller (Fsync slot) Done fits clean h = λ ino open_is. file_stored (backing_state_of new).tree after ino fits (h.1 ino open_is)
 stored_of old new before after now caller op reply fits clean h = tt
 
 -- a refusal before anything is put is a refusal

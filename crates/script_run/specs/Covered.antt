@@ -8,10 +8,10 @@ use Rattle.fs_model.specs.Cover.{tree_bytes}
 use Rattle.buffered_files.specs.declared.kept.Kept.{Kept}
 use Rattle.buffered_files.specs.Present.{IsKept, present}
 use Rattle.plain_backing.specs.Covering.{IsCovering}
-use Rattle.script_run.specs.Run.{Running}
+use Rattle.script_run.specs.Run.{ScriptRunning}
 
 -- The volume's numbers count the bytes that are stored, and a credit for each page that is dirty over them and for no other. All that was granted has room, with these credits.
-pub record IsCovered (geo : RawGeometry) (here : Running) : Type 0 where
+pub record IsScriptCovered (geo : RawGeometry) (here : ScriptRunning) : Type 0 where
   pub kept : Kept
   pub fits : IsKept here.stored kept
   pub seen : present here.stored kept ≡ here.files

@@ -9,18 +9,18 @@ use Rattle.fs_model.specs.Cover.{index_lebs, tree_bytes}
 use Rattle.fs_model.specs.Legal.{pages_in}
 use Rattle.script_text.specs.declared.part.Part.{Part}
 use Rattle.script_text.specs.declared.part.Part.TheVariants.{Line, Mount}
-use Rattle.script_run.specs.Run.{Running}
+use Rattle.script_run.specs.Run.{ScriptRunning}
 
 -- a caller's line adds five nodes at most, and two for each page that it touches
 abbrev pub most_added : Part → ℕ
 most_added (Line caller op) = 5 + 2 * pages_in op
 most_added part = 0
 
-abbrev pub heaviest_weight : Running → List Part → ℕ
+abbrev pub heaviest_weight : ScriptRunning → List Part → ℕ
 heaviest_weight first parts = first.weight + sum_by most_added parts
 
 -- what admission reckons with at most behind these lines, where no page is dirty: the bytes of the files then, and the heaviest index
-abbrev pub heaviest_space : RawGeometry → Running → List Part → Running → Space
+abbrev pub heaviest_space : RawGeometry → ScriptRunning → List Part → ScriptRunning → Space
 heaviest_space geo first parts last =
     record { used = tree_bytes last.files.tree; held = 0; credits = 0; empty = 0; index = max first.index (2 * index_lebs geo (heaviest_weight first parts)); weight = heaviest_weight first parts; main = main_lebs geo }
 

@@ -8,19 +8,19 @@ use Rattle.fs_model.specs.declared.trace.TraceLine.{TraceLine}
 use Rattle.fs_model.specs.Cover.{index_lebs}
 use Rattle.fs_model.specs.Legal.{AreLines, Opening, Place, Present, count_in, most_weight, sides_in}
 use Rattle.buffered_files.specs.Alike.{IsAlike}
-use Rattle.traced_files.specs.History.{IsAsked, grown_weight, is_flushed}
+use Rattle.traced_files.specs.History.{IsRoomAsked, grown_weight, is_flushed}
 use Rattle.traced_files.specs.Seen.{LeavesSeen}
 use Rattle.script_text.specs.declared.part.Part.{Part}
 use Rattle.script_text.specs.declared.part.Part.TheVariants.{Line, Workers}
 use Rattle.script_text.specs.Reply.{reply_line}
 use Rattle.script_phase.specs.declared.lines.CallerLine.{CallerLine}
 use Rattle.script_phase.specs.Phases.{callers_in, is_memory, ops_by, traced_by}
-use Rattle.script_run.specs.Covered.{IsCovered}
-use Rattle.script_run.specs.Run.{IsPart, IsServed, Running, clean_space, orphans_told}
+use Rattle.script_run.specs.Covered.{IsScriptCovered}
+use Rattle.script_run.specs.Run.{IsScriptPart, IsLineServed, ScriptRunning, clean_space, orphans_told}
 use Rattle.script_run.specs.Stored.{IsUnder}
 
 -- What a phase of so many callers opens on: the files as callers see them, the index with all dirty pages put, and the room that is left in the list of orphans. The volume may be written, and never failed.
-abbrev pub opened_on : RawGeometry → ℕ → Running → Opening
+abbrev pub opened_on : RawGeometry → ℕ → ScriptRunning → Opening
 opened_on geo callers here = record {
   geometry = geo;
   callers = callers;
@@ -35,11 +35,11 @@ opened_on geo callers here = record {
 }
 
 -- what a phase leaves, with the sides of each refusal for want of room; no volume failed
-abbrev pub left_by : RawGeometry → Running → List TraceLine → Running → Present
+abbrev pub left_by : RawGeometry → ScriptRunning → List TraceLine → ScriptRunning → Present
 left_by geo before trace after = record { files = after.files; refused = flat_map sides_in trace; mode = ReadWrite; faults = 0; outlook = (opened_on geo 0 before).outlook }
 
 -- the place before the first line
-abbrev pub place_at : Running → Place
+abbrev pub place_at : ScriptRunning → Place
 place_at here = record { before = []; files = here.files; orphans = 0 }
 
 -- what a trace prints: its lines, in its order, each with its caller's number
@@ -47,7 +47,7 @@ abbrev pub trace_text : List TraceLine → List ℕ
 trace_text trace = flat_map (λ line. reply_line line.caller line.number line.reply) trace
 
 -- Callers were at work at once. Their lines are one trace.
-pub record AreServedTogether (geo : RawGeometry) (before : Running) (lines : List CallerLine) (text : List ℕ) (after : Running) : Type 0 where
+pub record AreServedTogether (geo : RawGeometry) (before : ScriptRunning) (lines : List CallerLine) (text : List ℕ) (after : ScriptRunning) : Type 0 where
   pub trace : List TraceLine
   -- Each caller's lines stand in it, each once and in order, and no others; they have the phase's time.
   pub own : (caller : ℕ) → traced_by caller trace ≡ ops_by caller lines
@@ -55,7 +55,7 @@ pub record AreServedTogether (geo : RawGeometry) (before : Running) (lines : Lis
   -- Each is numbered by its caller, and answered as the plain operation answers on the files that the line before it left; or it is refused: for want of room if it may ask for room, or since the next list of orphans is full. None was refused for want of memory, or by a fault of the volume.
   pub last : Place
   pub answered : AreLines (opened_on geo (callers_in lines) before) ReadWrite (place_at before) trace last
-  pub asked : All IsAsked trace
+  pub asked : All IsRoomAsked trace
   pub memory : All (λ line. is_memory line.reply ≡ false) trace
   pub faultless : flat_map count_in trace ≡ []
   pub printed : text ≡ trace_text trace
@@ -73,10 +73,10 @@ pub record AreServedTogether (geo : RawGeometry) (before : Running) (lines : Lis
   pub rest : after ≡ record before { files = after.files; stored = after.stored; journal = after.journal; weight = after.weight; index = after.index; closed = after.closed; number = 0 }
 
 -- One caller's lines, each on what the one before it left.
-abbrev pub AreServed : RawGeometry → Running → List CallerLine → List ℕ → Running → Type 0
+abbrev pub AreServed : RawGeometry → ScriptRunning → List CallerLine → List ℕ → ScriptRunning → Type 0
 AreServed geo before [] text after = (text ≡ []) × (after ≡ before)
 AreServed geo before (line ∷ lines) text after =
-    (first : List ℕ) × (next : Running) × (rest : List ℕ) × IsServed geo before line.caller line.op first next × AreServed geo next lines rest after × (text ≡ first ++ rest)
+    (first : List ℕ) × (next : ScriptRunning) × (rest : List ℕ) × IsLineServed geo before line.caller line.op first next × AreServed geo next lines rest after × (text ≡ first ++ rest)
 
 -- whether there is no line, or one caller alone beside no worker
 abbrev pub is_alone : ℕ → List CallerLine → Bool
@@ -84,26 +84,26 @@ is_alone workers [] = true
 is_alone workers (line ∷ lines) = (workers == 0) && list_all (λ other. other.caller == line.caller) lines
 
 -- A phase: one caller's lines after one another if it is alone, and else one trace.
-abbrev pub IsPhaseOf : Bool → RawGeometry → Running → List CallerLine → List ℕ → Running → Type 0
+abbrev pub IsPhaseOf : Bool → RawGeometry → ScriptRunning → List CallerLine → List ℕ → ScriptRunning → Type 0
 IsPhaseOf true geo before lines text after = AreServed geo before lines text after
 IsPhaseOf false geo before lines text after = AreServedTogether geo before lines text after
 
-abbrev pub IsPhase : RawGeometry → Running → List CallerLine → List ℕ → Running → Type 0
+abbrev pub IsPhase : RawGeometry → ScriptRunning → List CallerLine → List ℕ → ScriptRunning → Type 0
 IsPhase geo before lines text after = IsPhaseOf (is_alone before.workers lines) geo before lines text after
 
 -- A line of another kind ends the phase whose lines stand before it. All that was promised has room then.
-pub record IsTurn (geo : RawGeometry) (before : Running) (lines : List CallerLine) (part : Part) (text : List ℕ) (after : Running) : Type 0 where
-  pub middle : Running
+pub record IsTurn (geo : RawGeometry) (before : ScriptRunning) (lines : List CallerLine) (part : Part) (text : List ℕ) (after : ScriptRunning) : Type 0 where
+  pub middle : ScriptRunning
   pub first : List ℕ
   pub phase : IsPhase geo before lines first middle
-  pub covered : IsCovered geo middle
+  pub covered : IsScriptCovered geo middle
   pub line : List ℕ
-  pub control : IsPart geo middle part line after
+  pub control : IsScriptPart geo middle part line after
   pub printed : text ≡ first ++ line
 
 -- where a script is, and the lines of the phase that has begun, which wait
 pub record ScriptPlace : Type 0 where
-  pub here : Running
+  pub here : ScriptRunning
   pub lines : List CallerLine
 
 -- one more line of a script: a caller's line waits, and one of another kind ends the phase
@@ -112,11 +112,11 @@ HasAdvanced geo old (Line caller op) text new = (text ≡ []) × (new ≡ record
 HasAdvanced geo old part text new = IsTurn geo old.here old.lines part text new.here × (new.lines ≡ [])
 
 -- A script, from the lines on of a phase that has begun: each phase, and the line of another kind behind it.
-abbrev pub ArePhases : RawGeometry → Running → List CallerLine → List Part → List ℕ → Running → Type 0
+abbrev pub ArePhases : RawGeometry → ScriptRunning → List CallerLine → List Part → List ℕ → ScriptRunning → Type 0
 ArePhases geo before lines [] text after = IsPhase geo before lines text after
 ArePhases geo before lines (Line caller op ∷ parts) text after = ArePhases geo before (lines ++ (record { caller = caller; op = op }) ∷ []) parts text after
 ArePhases geo before lines (part ∷ parts) text after =
-    (front : List ℕ) × (next : Running) × (rest : List ℕ) × IsTurn geo before lines part front next × ArePhases geo next [] parts rest after × (text ≡ front ++ rest)
+    (front : List ℕ) × (next : ScriptRunning) × (rest : List ℕ) × IsTurn geo before lines part front next × ArePhases geo next [] parts rest after × (text ≡ front ++ rest)
 
 -- a line of this caller, or of another kind that asks for no worker
 abbrev pub IsOfOne : ℕ → Part → Type 0

@@ -8,9 +8,9 @@ use Rattle.script_text.specs.declared.part.Part.{Part}
 use Rattle.script_text.specs.declared.part.Part.TheVariants.{Line}
 
 -- an operation that gives bytes
-abbrev pub IsCalled : Part → Type 0
-IsCalled (Line caller op) = IsCall op
-IsCalled part = Unit {0}
+abbrev pub IsPartCalled : Part → Type 0
+IsPartCalled (Line caller op) = IsCall op
+IsPartCalled part = Unit {0}
 
 -- whether there was no memory for it, or the volume failed
 abbrev pub is_fault : Reply → Bool

@@ -10,18 +10,18 @@ use Rattle.buffered_files.specs.declared.kept.Kept.{Kept}
 use Rattle.buffered_files.specs.Calls.{full_weight}
 use Rattle.buffered_files.specs.Present.{present}
 use Rattle.plain_backing.specs.declared.backing.PlainBacking.{PlainBacking}
-use Rattle.plain_backing.specs.PlainBacking.{Covers, state_of}
+use Rattle.plain_backing.specs.PlainBacking.{Covers, backing_state_of}
 use Rattle.script_phase.specs.declared.lines.CallerLine.{CallerLine}
 use Rattle.script_run.specs.Phases.{ScriptPlace}
-use Rattle.script_run.specs.Run.{Running}
+use Rattle.script_run.specs.Run.{ScriptRunning}
 use Rattle.script_run.specs.declared.lines.Gathered.{Gathered}
 use Rattle.script_run.specs.declared.session.Session.{Session}
 
 abbrev pub state_in : Session → BackingState
-state_in session = state_of session.fs.backing
+state_in session = backing_state_of session.fs.backing
 
 -- the files as callers see them, what is stored of them, and where the script is
-abbrev pub running_of : Session → Running
+abbrev pub running_of : Session → ScriptRunning
 running_of session = record {
   files = present (state_in session).tree session.fs.kept;
   stored = (state_in session).tree;
@@ -36,14 +36,14 @@ running_of session = record {
 }
 
 -- where a script is whose volume is mounted: over this backing, under what is kept, at this time
-abbrev pub mounted_over : PlainBacking → Kept → ℕ → Running
+abbrev pub mounted_over : PlainBacking → Kept → ℕ → ScriptRunning
 mounted_over backing kept now = record {
-  files = present (state_of backing).tree kept;
-  stored = (state_of backing).tree;
-  journal = (state_of backing).journal;
-  weight = full_weight (state_of backing) kept;
-  index = (state_of backing).space.index;
-  closed = (state_of backing).closed;
+  files = present (backing_state_of backing).tree kept;
+  stored = (backing_state_of backing).tree;
+  journal = (backing_state_of backing).journal;
+  weight = full_weight (backing_state_of backing) kept;
+  index = (backing_state_of backing).space.index;
+  closed = (backing_state_of backing).closed;
   mounted = true;
   now = now;
   number = 0;
@@ -58,13 +58,13 @@ pub record IsBare (kept : Kept) : Type 0 where
 
 -- A backing that no call of which fails, that can be written, and whose list of orphans takes a LEB. All that it promised has room, and each covered credit is that of a dirty page.
 pub record IsSteady (geo : RawGeometry) (backing : PlainBacking) (kept : Kept) : Type 0 where
-  pub geometry : (state_of backing).geometry ≡ geo
-  pub mode : (state_of backing).mode ≡ ReadWrite
-  pub faults : (state_of backing).faults ≡ 0
+  pub geometry : (backing_state_of backing).geometry ≡ geo
+  pub mode : (backing_state_of backing).mode ≡ ReadWrite
+  pub faults : (backing_state_of backing).faults ≡ 0
   pub strike : backing.numbers.strike ≡ 0
-  pub covers : Covers (state_of backing)
-  pub orphans : (state_of backing).orphan_limit ≡ orphan_limit geo.leb_size
-  pub credits : (state_of backing).space.credits ≡ length kept.pages.dirty
+  pub covers : Covers (backing_state_of backing)
+  pub orphans : (backing_state_of backing).orphan_limit ≡ orphan_limit geo.leb_size
+  pub credits : (backing_state_of backing).space.credits ≡ length kept.pages.dirty
 
 -- what a session keeps; nothing is kept in memory while nothing is mounted
 pub record IsSession (geo : RawGeometry) (session : Session) : Type 0 where

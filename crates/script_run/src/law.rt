@@ -17,15 +17,15 @@ ghost use Rattle.script_phase.specs.Phases.{callers_in};
 ghost use Rattle.text_lines.specs.Lines.{ended};
 ghost use Rattle.script_run.specs.Heaviest.{heaviest_space, heaviest_weight, one_create, worked_geometry};
 ghost use Rattle.script_run.specs.Phases.{ArePhases, AreServedTogether, IsOfOne, left_by, opened_on};
-ghost use Rattle.script_run.specs.Run.{HasNoRoom, IsRun, Running, opening};
+ghost use Rattle.script_run.specs.Run.{HasNoRoom, IsRun, ScriptRunning, opening};
 
 use space_sums::more_never_lowers_the_need;
 
 /// Behind the lines of a script the index weighs no more than these add at most. So what has room beside the heaviest index
 /// is not refused for want of it.
 pub fn what_has_room_is_not_refused_for_want_of_it()
-    ensures weight { (geo : Raw) (first last : Running) (parts : List Part) (text : List ℕ) → IsRun geo first parts text last → last.weight ≤ heaviest_weight first parts }
-    ensures room { (geo : Raw) (first last : Running) (parts : List Part) (text : List ℕ) (need : Need) (sides : NoSpace) → IsRun geo first parts text last →
+    ensures weight { (geo : Raw) (first last : ScriptRunning) (parts : List Part) (text : List ℕ) → IsRun geo first parts text last → last.weight ≤ heaviest_weight first parts }
+    ensures room { (geo : Raw) (first last : ScriptRunning) (parts : List Part) (text : List ℕ) (need : Need) (sides : NoSpace) → IsRun geo first parts text last →
         HasRoom geo (heaviest_space geo first parts last) need → HasNoRoom geo last need sides → ⊥ }
 {
     more_never_lowers_the_need();
@@ -33,20 +33,20 @@ pub fn what_has_room_is_not_refused_for_want_of_it()
 
 /// On a fresh volume of 64 main LEBs a file is made: this text, and no other, is that of such a script.
 pub fn a_first_file_is_made()
-    ensures { (journal : Journal) (text : List ℕ) (last : Running) → IsRun worked_geometry (opening journal) one_create text last → text ≡ ended (codes "mount rw") ++ reply_line 1 1 (Ino 65) }
+    ensures { (journal : Journal) (text : List ℕ) (last : ScriptRunning) → IsRun worked_geometry (opening journal) one_create text last → text ≡ ended (codes "mount rw") ++ reply_line 1 1 (Ino 65) }
 {}
 
 /// So it is beside a worker, whose pages may be put at any moment.
 pub fn a_first_file_is_made_beside_a_worker()
-    ensures { (journal : Journal) (text : List ℕ) (last : Running) → ArePhases worked_geometry (opening journal) [] (Workers 1 ∷ one_create) text last → text ≡ ended (codes "mount rw") ++ reply_line 1 1 (Ino 65) }
+    ensures { (journal : Journal) (text : List ℕ) (last : ScriptRunning) → ArePhases worked_geometry (opening journal) [] (Workers 1 ∷ one_create) text last → text ≡ ended (codes "mount rw") ++ reply_line 1 1 (Ino 65) }
 {}
 
 /// The trace of callers who were at work at once is legal, from what their phase opened on to what it left.
 pub fn a_phase_is_legal()
-    ensures { (geo : Raw) (before after : Running) (lines : List CallerLine) (text : List ℕ) → (phase : AreServedTogether geo before lines text after) → IsLegal (opened_on geo (callers_in lines) before) phase.trace (left_by geo before phase.trace after) }
+    ensures { (geo : Raw) (before after : ScriptRunning) (lines : List CallerLine) (text : List ℕ) → (phase : AreServedTogether geo before lines text after) → IsLegal (opened_on geo (callers_in lines) before) phase.trace (left_by geo before phase.trace after) }
 {}
 
 /// A script of one caller beside no worker is a run of its lines, one after another.
 pub fn a_script_of_one_caller_is_a_run()
-    ensures { (geo : Raw) (one : ℕ) (first last : Running) (parts : List Part) (text : List ℕ) → first.workers ≡ 0 → AllByRecursion (IsOfOne one) parts → ArePhases geo first [] parts text last → IsRun geo first parts text last }
+    ensures { (geo : Raw) (one : ℕ) (first last : ScriptRunning) (parts : List Part) (text : List ℕ) → first.workers ≡ 0 → AllByRecursion (IsOfOne one) parts → ArePhases geo first [] parts text last → IsRun geo first parts text last }
 {}

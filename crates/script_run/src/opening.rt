@@ -9,7 +9,7 @@ ghost use Rattle.fs_model.specs.Cover.{tree_bytes};
 ghost use Rattle.fs_model.specs.Proper.{IsProper};
 ghost use Rattle.fs_model.specs.Settled.{settled};
 ghost use Rattle.plain_backing.specs.Covering.{IsCovering, leaf_count};
-ghost use Rattle.plain_backing.specs.PlainBacking.{Covers, state_of};
+ghost use Rattle.plain_backing.specs.PlainBacking.{Covers, backing_state_of};
 ghost use Rattle.fs_model.specs.declared.backing_answers.Mode.TheVariants.{ReadWrite};
 ghost use Rattle.script_run.specs.Opening.{mounted_space};
 ghost use Rattle.script_run.specs.Run.{LeavesOnly};
@@ -105,17 +105,17 @@ pub(crate) fn backing_of(
     requires small { IsSmall space }
     requires credits { space.credits ≡ 0 }
     requires covers { IsCovering (raw_of geometry) tree (record space { used = tree_bytes tree; held = 0 }) None }
-    ensures tree { IfOk result (λ backing. (state_of backing).tree ≡ tree) }
-    ensures geometry { IfOk result (λ backing. (state_of backing).geometry ≡ raw_of geometry) }
-    ensures credits { IfOk result (λ backing. (state_of backing).space.credits ≡ 0) }
-    ensures mode { IfOk result (λ backing. (state_of backing).mode ≡ ReadWrite) }
-    ensures faults { IfOk result (λ backing. (state_of backing).faults ≡ 0) }
+    ensures tree { IfOk result (λ backing. (backing_state_of backing).tree ≡ tree) }
+    ensures geometry { IfOk result (λ backing. (backing_state_of backing).geometry ≡ raw_of geometry) }
+    ensures credits { IfOk result (λ backing. (backing_state_of backing).space.credits ≡ 0) }
+    ensures mode { IfOk result (λ backing. (backing_state_of backing).mode ≡ ReadWrite) }
+    ensures faults { IfOk result (λ backing. (backing_state_of backing).faults ≡ 0) }
     ensures strike { IfOk result (λ backing. backing.numbers.strike ≡ 0) }
-    ensures covers { IfOk result (λ backing. Covers (state_of backing)) }
-    ensures orphans { IfOk result (λ backing. (state_of backing).orphan_limit ≡ orphan_limit geometry.leb_size) }
-    ensures closed { IfOk result (λ backing. (state_of backing).closed ≡ 0) }
-    ensures left { IfOk result (λ backing. LeavesOnly (state_of backing).journal tree) }
-    ensures weight { IfOk result (λ backing. ((state_of backing).space.weight ≡ space.weight) × ((state_of backing).space.index ≡ space.index)) }
+    ensures covers { IfOk result (λ backing. Covers (backing_state_of backing)) }
+    ensures orphans { IfOk result (λ backing. (backing_state_of backing).orphan_limit ≡ orphan_limit geometry.leb_size) }
+    ensures closed { IfOk result (λ backing. (backing_state_of backing).closed ≡ 0) }
+    ensures left { IfOk result (λ backing. LeavesOnly (backing_state_of backing).journal tree) }
+    ensures weight { IfOk result (λ backing. ((backing_state_of backing).space.weight ≡ space.weight) × ((backing_state_of backing).space.index ≡ space.index)) }
 {
     PlainBacking::new(
         alloc,

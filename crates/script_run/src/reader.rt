@@ -6,9 +6,9 @@ ghost use Rattle.plain_backing.specs.Spending.{is_spent};
 ghost use Rattle.fs_model.specs.declared.backing_answers.Mode.TheVariants.{ReadOnly};
 ghost use Rattle.script_text.specs.declared.part.Part.TheVariants.{Line, Mount, Unmount};
 ghost use Rattle.script_text.specs.Script.{IsInRange};
-ghost use Rattle.script_run.specs.Replies.{IsCalled, is_fault};
+ghost use Rattle.script_run.specs.Replies.{IsPartCalled, is_fault};
 ghost use Rattle.script_run.specs.Reading.{IsReadPart, IsReadReply, reading_on};
-ghost use Rattle.script_run.specs.Readers.{IsClosed, reading_of, seen_over};
+ghost use Rattle.script_run.specs.Readers.{IsBackingClosed, reading_of, seen_over};
 
 use crate::session::{CLEAN, parts_of};
 use buffered_files::clean_files_are_those_of_the_backing;
@@ -39,7 +39,7 @@ pub(crate) fn first_reader(
 ) -> Result<Reader, Memory>
     requires proper { IsProper tree }
     requires unspent { is_spent (ReadOnly cause) ≡ false }
-    ensures closed { IfOk result (λ reader. IsClosed cause reader.fs.backing reader.fs.kept) }
+    ensures closed { IfOk result (λ reader. IsBackingClosed cause reader.fs.backing reader.fs.kept) }
     ensures cause { IfOk result (λ reader. reader.cause ≡ cause) }
     ensures opening { IfOk result (λ reader. reading_of reader ≡ reading_on tree) }
 {
@@ -72,9 +72,9 @@ pub(crate) fn read_next(
     part: Part,
     text: &mut Vec<u8>,
 ) -> Result<Reader, Memory>
-    requires closed { IsClosed reader.cause reader.fs.backing reader.fs.kept }
+    requires closed { IsBackingClosed reader.cause reader.fs.backing reader.fs.kept }
     requires range { IsInRange part }
-    ensures closed { IfOk result (λ new. IsClosed reader.cause new.fs.backing new.fs.kept) }
+    ensures closed { IfOk result (λ new. IsBackingClosed reader.cause new.fs.backing new.fs.kept) }
     ensures cause { IfOk result (λ new. new.cause ≡ reader.cause) }
     ensures part { IfOk result (λ new. (line : List ℕ) × IsReadPart reader.cause (reading_of reader) part line (reading_of new) × (text.new.items ≡ text.old.items ++ line)) }
 {
@@ -101,8 +101,8 @@ pub(crate) fn read_next(
 
 // Mounts the volume.
 fn read_mounted(reader: Reader, text: &mut Vec<u8>) -> Result<Reader, Memory>
-    requires closed { IsClosed reader.cause reader.fs.backing reader.fs.kept }
-    ensures closed { IfOk result (λ new. IsClosed reader.cause new.fs.backing new.fs.kept) }
+    requires closed { IsBackingClosed reader.cause reader.fs.backing reader.fs.kept }
+    ensures closed { IfOk result (λ new. IsBackingClosed reader.cause new.fs.backing new.fs.kept) }
     ensures cause { IfOk result (λ new. new.cause ≡ reader.cause) }
     ensures part { IfOk result (λ new. (line : List ℕ) × IsReadPart reader.cause (reading_of reader) Mount line (reading_of new) × (text.new.items ≡ text.old.items ++ line)) }
 {
@@ -118,8 +118,8 @@ fn read_mounted(reader: Reader, text: &mut Vec<u8>) -> Result<Reader, Memory>
 
 // Unmounts it: nobody has a file open any more.
 fn read_unmounted(alloc: Global, reader: Reader, text: &mut Vec<u8>) -> Result<Reader, Memory>
-    requires closed { IsClosed reader.cause reader.fs.backing reader.fs.kept }
-    ensures closed { IfOk result (λ new. IsClosed reader.cause new.fs.backing new.fs.kept) }
+    requires closed { IsBackingClosed reader.cause reader.fs.backing reader.fs.kept }
+    ensures closed { IfOk result (λ new. IsBackingClosed reader.cause new.fs.backing new.fs.kept) }
     ensures cause { IfOk result (λ new. new.cause ≡ reader.cause) }
     ensures part { IfOk result (λ new. (line : List ℕ) × IsReadPart reader.cause (reading_of reader) Unmount line (reading_of new) × (text.new.items ≡ text.old.items ++ line)) }
 {
@@ -140,10 +140,10 @@ fn read_unmounted(alloc: Global, reader: Reader, text: &mut Vec<u8>) -> Result<R
 
 // Does a caller's operation, and prints the reply.
 fn read_served(reader: Reader, caller: u16, op: Op, text: &mut Vec<u8>) -> Result<Reader, Memory>
-    requires closed { IsClosed reader.cause reader.fs.backing reader.fs.kept }
-    requires call { IsCalled (Line caller op) }
+    requires closed { IsBackingClosed reader.cause reader.fs.backing reader.fs.kept }
+    requires call { IsPartCalled (Line caller op) }
     requires caller { caller ≤ 16 }
-    ensures closed { IfOk result (λ new. IsClosed reader.cause new.fs.backing new.fs.kept) }
+    ensures closed { IfOk result (λ new. IsBackingClosed reader.cause new.fs.backing new.fs.kept) }
     ensures cause { IfOk result (λ new. new.cause ≡ reader.cause) }
     ensures part { IfOk result (λ new. (line : List ℕ) × IsReadPart reader.cause (reading_of reader) (Line caller op) line (reading_of new) × (text.new.items ≡ text.old.items ++ line)) }
 {
@@ -172,9 +172,9 @@ fn read_replied(
     now: u64,
     op: Op,
 ) -> Result<Reply, Memory>
-    requires closed { IsClosed cause fs.old.backing fs.old.kept }
-    requires call { IsCalled (Line caller op) }
-    ensures closed { OnOk result (IsClosed cause fs.new.backing fs.new.kept) }
+    requires closed { IsBackingClosed cause fs.old.backing fs.old.kept }
+    requires call { IsPartCalled (Line caller op) }
+    ensures closed { OnOk result (IsBackingClosed cause fs.new.backing fs.new.kept) }
     ensures replied { IfOk result (λ reply. (mounted : Bool) (numbers : List ℕ) → IsReadReply cause (record { files = seen_over fs.old.backing fs.old.kept; mounted = mounted; now = now; numbers = numbers }) caller op reply (seen_over fs.new.backing fs.new.kept)) }
 {
     let event = Event::Call {

@@ -5,16 +5,16 @@ ghost use Rattle.ubifs_base.specs.RawOf.{raw_of};
 ghost use Rattle.buffered_files.specs.Alike.{IsAlike};
 ghost use Rattle.buffered_files.specs.Present.{present};
 ghost use Rattle.fs_model.specs.declared.backing_answers.Mode.TheVariants.{ReadWrite};
-ghost use Rattle.plain_backing.specs.PlainBacking.{state_of};
+ghost use Rattle.plain_backing.specs.PlainBacking.{backing_state_of};
 ghost use Rattle.script_text.specs.declared.part.Part.TheVariants.{Line, Mount, Unmount};
 ghost use Rattle.script_text.specs.Script.{MayStand};
 ghost use Rattle.vfs_ops.specs.declared.event.Outcome.TheVariants.{Replied};
 ghost use Rattle.vfs_ops.specs.Background.{is_work};
 ghost use Rattle.vfs_ops.specs.Events.{HasSynced, IsCalled as IsCalledEvent, IsReply, grant_of};
-ghost use Rattle.script_run.specs.Replies.{IsCalled};
+ghost use Rattle.script_run.specs.Replies.{IsPartCalled};
 ghost use Rattle.fs_model.specs.Files.{Tree};
 ghost use Rattle.fs_model.specs.Orphan.{without_nameless};
-ghost use Rattle.script_run.specs.Run.{HasGrown, IsPart, IsReplied, LeavesOnly, opening_on};
+ghost use Rattle.script_run.specs.Run.{HasGrown, IsScriptPart, IsReplied, LeavesOnly, opening_on};
 ghost use Rattle.script_run.specs.Sessions.{IsBare, IsSession, IsSteady, running_of, mounted_over, state_in};
 
 use crate::nameless::without_nameless;
@@ -79,11 +79,11 @@ pub(crate) fn next(
     text: &mut Vec<u8>,
 ) -> Result<Session, Memory>
     requires session { IsSession (state_in session).geometry session }
-    requires call { IsCalled part }
+    requires call { IsPartCalled part }
     requires stands { MayStand session.mounted part }
     requires few { session.number < 2 ^ 32 }
     ensures session { IfOk result (λ new. IsSession (state_in session).geometry new) }
-    ensures part { IfOk result (λ new. (line : List ℕ) × IsPart (state_in session).geometry (running_of session) part line (running_of new) × (text.new.items ≡ text.old.items ++ line)) }
+    ensures part { IfOk result (λ new. (line : List ℕ) × IsScriptPart (state_in session).geometry (running_of session) part line (running_of new) × (text.new.items ≡ text.old.items ++ line)) }
     ensures few { IfOk result (λ new. new.number ≤ session.number + 1) }
 {
     match part {
@@ -113,7 +113,7 @@ pub(crate) fn next(
 fn mounted(session: Session, text: &mut Vec<u8>) -> Result<Session, Memory>
     requires session { IsSession (state_in session).geometry session }
     ensures session { IfOk result (λ new. IsSession (state_in session).geometry new) }
-    ensures part { IfOk result (λ new. (line : List ℕ) × IsPart (state_in session).geometry (running_of session) Mount line (running_of new) × (text.new.items ≡ text.old.items ++ line)) }
+    ensures part { IfOk result (λ new. (line : List ℕ) × IsScriptPart (state_in session).geometry (running_of session) Mount line (running_of new) × (text.new.items ≡ text.old.items ++ line)) }
     ensures few { IfOk result (λ new. new.number ≡ 0) }
 {
     text.extend_from_slice(b"mount rw\n".as_slice())?;
@@ -131,7 +131,7 @@ fn mounted(session: Session, text: &mut Vec<u8>) -> Result<Session, Memory>
 fn unmounted(alloc: Global, session: Session, text: &mut Vec<u8>) -> Result<Session, Memory>
     requires session { IsSession (state_in session).geometry session }
     ensures session { IfOk result (λ new. IsSession (state_in session).geometry new) }
-    ensures part { IfOk result (λ new. (line : List ℕ) × IsPart (state_in session).geometry (running_of session) Unmount line (running_of new) × (text.new.items ≡ text.old.items ++ line)) }
+    ensures part { IfOk result (λ new. (line : List ℕ) × IsScriptPart (state_in session).geometry (running_of session) Unmount line (running_of new) × (text.new.items ≡ text.old.items ++ line)) }
     ensures few { IfOk result (λ new. new.number ≡ 0) }
 {
     let fs = put_away(alloc, session.geometry, session.fs)?;
@@ -154,11 +154,11 @@ pub(crate) fn served(
     text: &mut Vec<u8>,
 ) -> Result<Session, Memory>
     requires session { IsSession (state_in session).geometry session }
-    requires call { IsCalled (Line caller op) }
+    requires call { IsPartCalled (Line caller op) }
     requires mounted { session.mounted ≡ true }
     requires few { session.number < 2 ^ 32 }
     ensures session { IfOk result (λ new. IsSession (state_in session).geometry new) }
-    ensures part { IfOk result (λ new. (line : List ℕ) × IsPart (state_in session).geometry (running_of session) (Line caller op) line (running_of new) × (text.new.items ≡ text.old.items ++ line)) }
+    ensures part { IfOk result (λ new. (line : List ℕ) × IsScriptPart (state_in session).geometry (running_of session) (Line caller op) line (running_of new) × (text.new.items ≡ text.old.items ++ line)) }
     ensures few { IfOk result (λ new. new.number ≡ session.number + 1) }
 {
     let mut fs = session.fs;
@@ -184,10 +184,10 @@ fn put_away(
     requires steady { IsSteady (raw_of geometry) fs.backing fs.kept }
     ensures steady { IfOk result (λ new. IsSteady (raw_of geometry) new.backing new.kept) }
     ensures bare { IfOk result (λ new. IsBare new.kept) }
-    ensures closed { IfOk result (λ new. (state_of new.backing).closed ≡ 0) }
-    ensures left { IfOk result (λ new. LeavesOnly (state_of new.backing).journal (state_of new.backing).tree) }
-    ensures files { IfOk result (λ new. (put : Tree) × IsAlike (present (state_of fs.backing).tree fs.kept) (record (present (state_of fs.backing).tree fs.kept) { tree = put })
-        × ((state_of new.backing).tree ≡ without_nameless put) × (present (state_of new.backing).tree new.kept ≡ record { tree = without_nameless put; handles = [] })) }
+    ensures closed { IfOk result (λ new. (backing_state_of new.backing).closed ≡ 0) }
+    ensures left { IfOk result (λ new. LeavesOnly (backing_state_of new.backing).journal (backing_state_of new.backing).tree) }
+    ensures files { IfOk result (λ new. (put : Tree) × IsAlike (present (backing_state_of fs.backing).tree fs.kept) (record (present (backing_state_of fs.backing).tree fs.kept) { tree = put })
+        × ((backing_state_of new.backing).tree ≡ without_nameless put) × (present (backing_state_of new.backing).tree new.kept ≡ record { tree = without_nameless put; handles = [] })) }
     ensures grown { IfOk result (λ new. HasGrown (raw_of geometry) 0 0 (mounted_over fs.backing fs.kept 0) (mounted_over new.backing new.kept 0)) }
 {
     a_mount_keeps_trees_proper();
@@ -207,12 +207,12 @@ fn put_away(
 
 // Puts all that is dirty. Want of memory alone keeps it from that.
 fn flush(fs: &mut Fs<PlainBacking>) -> Result<(), Memory>
-    requires steady { IsSteady (state_of fs.old.backing).geometry fs.old.backing fs.old.kept }
-    ensures steady { OnOk result (IsSteady (state_of fs.old.backing).geometry fs.new.backing fs.new.kept) }
+    requires steady { IsSteady (backing_state_of fs.old.backing).geometry fs.old.backing fs.old.kept }
+    ensures steady { OnOk result (IsSteady (backing_state_of fs.old.backing).geometry fs.new.backing fs.new.kept) }
     ensures pages { OnOk result (fs.new.kept.pages.dirty ≡ []) }
     ensures inodes { OnOk result (fs.new.kept.inodes ≡ []) }
-    ensures files { OnOk result (IsAlike (present (state_of fs.old.backing).tree fs.old.kept) (present (state_of fs.new.backing).tree fs.new.kept)) }
-    ensures grown { OnOk result (HasGrown (state_of fs.old.backing).geometry 0 0 (mounted_over fs.old.backing fs.old.kept 0) (mounted_over fs.new.backing fs.new.kept 0)) }
+    ensures files { OnOk result (IsAlike (present (backing_state_of fs.old.backing).tree fs.old.kept) (present (backing_state_of fs.new.backing).tree fs.new.kept)) }
+    ensures grown { OnOk result (HasGrown (backing_state_of fs.old.backing).geometry 0 0 (mounted_over fs.old.backing fs.old.kept 0) (mounted_over fs.new.backing fs.new.kept 0)) }
 {
     match replied(fs, 1, 0, Op::Flush)? {
         Reply::Done => Ok(()),
@@ -222,11 +222,11 @@ fn flush(fs: &mut Fs<PlainBacking>) -> Result<(), Memory>
 
 // Commits what was put, as a mount does that ends.
 fn commit(fs: &mut Fs<PlainBacking>) -> Result<(), Memory>
-    requires steady { IsSteady (state_of fs.old.backing).geometry fs.old.backing fs.old.kept }
-    ensures steady { OnOk result (IsSteady (state_of fs.old.backing).geometry fs.new.backing fs.new.kept) }
-    ensures tree { OnOk result ((state_of fs.new.backing).tree ≡ (state_of fs.old.backing).tree) }
+    requires steady { IsSteady (backing_state_of fs.old.backing).geometry fs.old.backing fs.old.kept }
+    ensures steady { OnOk result (IsSteady (backing_state_of fs.old.backing).geometry fs.new.backing fs.new.kept) }
+    ensures tree { OnOk result ((backing_state_of fs.new.backing).tree ≡ (backing_state_of fs.old.backing).tree) }
     ensures kept { OnOk result (fs.new.kept ≡ fs.old.kept) }
-    ensures grown { OnOk result (HasGrown (state_of fs.old.backing).geometry 0 0 (mounted_over fs.old.backing fs.old.kept 0) (mounted_over fs.new.backing fs.new.kept 0)) }
+    ensures grown { OnOk result (HasGrown (backing_state_of fs.old.backing).geometry 0 0 (mounted_over fs.old.backing fs.old.kept 0) (mounted_over fs.new.backing fs.new.kept 0)) }
 {
     work(fs, &Event::CommitStart)?;
     work(fs, &Event::CommitStep)?;
@@ -236,14 +236,14 @@ fn commit(fs: &mut Fs<PlainBacking>) -> Result<(), Memory>
 
 // Asks the backing for work on what was put. Want of memory alone keeps it from that.
 fn work(fs: &mut Fs<PlainBacking>, event: &Event) -> Result<(), Memory>
-    requires steady { IsSteady (state_of fs.old.backing).geometry fs.old.backing fs.old.kept }
+    requires steady { IsSteady (backing_state_of fs.old.backing).geometry fs.old.backing fs.old.kept }
     requires work { is_work event.now ≡ true }
     requires call { IsCalledEvent event.now }
     requires grant { grant_of event.now ≡ 0 }
-    ensures steady { IsSteady (state_of fs.old.backing).geometry fs.new.backing fs.new.kept }
-    ensures tree { (state_of fs.new.backing).tree ≡ (state_of fs.old.backing).tree }
+    ensures steady { IsSteady (backing_state_of fs.old.backing).geometry fs.new.backing fs.new.kept }
+    ensures tree { (backing_state_of fs.new.backing).tree ≡ (backing_state_of fs.old.backing).tree }
     ensures kept { fs.new.kept ≡ fs.old.kept }
-    ensures grown { HasGrown (state_of fs.old.backing).geometry 0 0 (mounted_over fs.old.backing fs.old.kept 0) (mounted_over fs.new.backing fs.new.kept 0) }
+    ensures grown { HasGrown (backing_state_of fs.old.backing).geometry 0 0 (mounted_over fs.old.backing fs.old.kept 0) (mounted_over fs.new.backing fs.new.kept 0) }
 {
     let outcome = fs.step(event);
     fault_of(&outcome)
@@ -259,11 +259,11 @@ fn fault_of(outcome: &Outcome) -> Result<(), Memory> {
 
 // The reply to a caller's operation. Want of memory ends the run.
 fn replied(fs: &mut Fs<PlainBacking>, caller: u16, now: u64, op: Op) -> Result<Reply, Memory>
-    requires steady { IsSteady (state_of fs.old.backing).geometry fs.old.backing fs.old.kept }
-    requires call { IsCalled (Line caller op) }
-    ensures steady { OnOk result (IsSteady (state_of fs.old.backing).geometry fs.new.backing fs.new.kept) }
-    ensures replied { IfOk result (λ reply. IsReplied (state_of fs.old.backing).geometry (mounted_over fs.old.backing fs.old.kept now) caller op reply (mounted_over fs.new.backing fs.new.kept now)) }
-    ensures written { IfOk result (λ reply. HasSynced ReadWrite (state_of fs.new.backing) fs.old.kept fs.new.kept caller op reply) }
+    requires steady { IsSteady (backing_state_of fs.old.backing).geometry fs.old.backing fs.old.kept }
+    requires call { IsPartCalled (Line caller op) }
+    ensures steady { OnOk result (IsSteady (backing_state_of fs.old.backing).geometry fs.new.backing fs.new.kept) }
+    ensures replied { IfOk result (λ reply. IsReplied (backing_state_of fs.old.backing).geometry (mounted_over fs.old.backing fs.old.kept now) caller op reply (mounted_over fs.new.backing fs.new.kept now)) }
+    ensures written { IfOk result (λ reply. HasSynced ReadWrite (backing_state_of fs.new.backing) fs.old.kept fs.new.kept caller op reply) }
 {
     clean_files_are_those_of_the_backing();
     present_files_are_sound();

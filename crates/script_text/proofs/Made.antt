@@ -5,7 +5,7 @@ use Rattle.script_text.specs.declared.manifest_line.ManifestLine.{ManifestLine}
 use Rattle.script_text.specs.declared.manifest_line.ManifestLine.TheVariants.{Dir, File, Copy, Symlink, Link}
 use Rattle.script_text.specs.ManifestLines.{made_name, made_words, IsGivenLine, IsManifestLineOf}
 use Rattle.script_text.specs.MadeNames.{SaysMade}
-use Rattle.script_text.specs.Words.{AreWords, Word, Fixed, Number, Mode, Path, Target, FileName, Lacks}
+use Rattle.script_text.specs.Words.{AreSpacedWords, Word, Fixed, Number, Mode, Path, Target, FileName, Lacks}
 use Rattle.script_text.proofs.OneReading.{AllAlike, words_once}
 use Rattle.script_text.proofs.Sentences.{AllBare, Tight, begun, one_line, split, tight_lacks, tight_of, uncut}
 use Rattle.script_text.proofs.Spelling.{spelled_bytes}
@@ -42,40 +42,40 @@ made_bare (Copy path mode name) = (tt, (tt, (tt, tt)))
 made_bare (Symlink path target) = (tt, (tt, tt))
 made_bare (Link old new) = (tt, (tt, tt))
 
-pub dir_none : (text : List ℕ) → ((path : List ℕ) (mode : ℕ) → AreWords (Path path ∷ Mode mode ∷ []) text → ⊥) → (line : ManifestLine) → SaysMade (codes "dir") line text → ⊥
+pub dir_none : (text : List ℕ) → ((path : List ℕ) (mode : ℕ) → AreSpacedWords (Path path ∷ Mode mode ∷ []) text → ⊥) → (line : ManifestLine) → SaysMade (codes "dir") line text → ⊥
 dir_none text none line s = by line (letter_of line (codes "dir") s.name_is) s.words
   where
-    by : (x : ManifestLine) → letter x ≡ 100 → AreWords (made_words x) text → ⊥
+    by : (x : ManifestLine) → letter x ≡ 100 → AreSpacedWords (made_words x) text → ⊥
     by (Dir path mode) e h = none path mode h
     by (File path mode len byte) e h = omega (arith, e)
     by (Copy path mode name) e h = omega (arith, e)
     by (Symlink path target) e h = omega (arith, e)
     by (Link old new) e h = omega (arith, e)
 
-pub symlink_none : (text : List ℕ) → ((path target : List ℕ) → AreWords (Path path ∷ Target target ∷ []) text → ⊥) → (line : ManifestLine) → SaysMade (codes "symlink") line text → ⊥
+pub symlink_none : (text : List ℕ) → ((path target : List ℕ) → AreSpacedWords (Path path ∷ Target target ∷ []) text → ⊥) → (line : ManifestLine) → SaysMade (codes "symlink") line text → ⊥
 symlink_none text none line s = by line (letter_of line (codes "symlink") s.name_is) s.words
   where
-    by : (x : ManifestLine) → letter x ≡ 115 → AreWords (made_words x) text → ⊥
+    by : (x : ManifestLine) → letter x ≡ 115 → AreSpacedWords (made_words x) text → ⊥
     by (Dir path mode) e h = omega (arith, e)
     by (File path mode len byte) e h = omega (arith, e)
     by (Copy path mode name) e h = omega (arith, e)
     by (Symlink path target) e h = none path target h
     by (Link old new) e h = omega (arith, e)
 
-pub copy_none : (text : List ℕ) → ((path : List ℕ) (mode : ℕ) (name : List ℕ) → AreWords (Path path ∷ Mode mode ∷ FileName name ∷ []) text → ⊥) → (line : ManifestLine) → SaysMade (codes "copy") line text → ⊥
+pub copy_none : (text : List ℕ) → ((path : List ℕ) (mode : ℕ) (name : List ℕ) → AreSpacedWords (Path path ∷ Mode mode ∷ FileName name ∷ []) text → ⊥) → (line : ManifestLine) → SaysMade (codes "copy") line text → ⊥
 copy_none text none line s = by line (letter_of line (codes "copy") s.name_is) s.words
   where
-    by : (x : ManifestLine) → letter x ≡ 99 → AreWords (made_words x) text → ⊥
+    by : (x : ManifestLine) → letter x ≡ 99 → AreSpacedWords (made_words x) text → ⊥
     by (Dir path mode) e h = omega (arith, e)
     by (File path mode len byte) e h = omega (arith, e)
     by (Copy path mode name) e h = none path mode name h
     by (Symlink path target) e h = omega (arith, e)
     by (Link old new) e h = omega (arith, e)
 
-pub link_none : (text : List ℕ) → ((old new : List ℕ) → AreWords (Path old ∷ Path new ∷ []) text → ⊥) → (line : ManifestLine) → SaysMade (codes "link") line text → ⊥
+pub link_none : (text : List ℕ) → ((old new : List ℕ) → AreSpacedWords (Path old ∷ Path new ∷ []) text → ⊥) → (line : ManifestLine) → SaysMade (codes "link") line text → ⊥
 link_none text none line s = by line (letter_of line (codes "link") s.name_is) s.words
   where
-    by : (x : ManifestLine) → letter x ≡ 108 → AreWords (made_words x) text → ⊥
+    by : (x : ManifestLine) → letter x ≡ 108 → AreSpacedWords (made_words x) text → ⊥
     by (Dir path mode) e h = omega (arith, e)
     by (File path mode len byte) e h = omega (arith, e)
     by (Copy path mode name) e h = omega (arith, e)
@@ -86,7 +86,7 @@ link_none text none line s = by line (letter_of line (codes "link") s.name_is) s
 abbrev pub file_words : List ℕ → ℕ → ℕ → ℕ → List Word
 file_words path mode len byte = Path path ∷ Mode mode ∷ Number 32 len ∷ Number 8 byte ∷ []
 
-pub file_none : (text : List ℕ) → ((path : List ℕ) (mode len byte : ℕ) → AreWords (file_words path mode len byte) text → len ≤ 16777216 → ⊥) → (line : ManifestLine) → SaysMade (codes "file") line text → ⊥
+pub file_none : (text : List ℕ) → ((path : List ℕ) (mode len byte : ℕ) → AreSpacedWords (file_words path mode len byte) text → len ≤ 16777216 → ⊥) → (line : ManifestLine) → SaysMade (codes "file") line text → ⊥
 file_none text none line s = by line (letter_of line (codes "file") s.name_is) s
   where
     by : (x : ManifestLine) → letter x ≡ 102 → SaysMade (codes "file") x text → ⊥
@@ -97,7 +97,7 @@ file_none text none line s = by line (letter_of line (codes "file") s.name_is) s
     by (Link old new) e h = omega (arith, e)
 
 -- a mode, a length and a byte are read in one way only
-pub one_length : (text : List ℕ) (mode len byte m l b : ℕ) → AreWords (Mode mode ∷ Number 32 len ∷ Number 8 byte ∷ []) text → AreWords (Mode m ∷ Number 32 l ∷ Number 8 b ∷ []) text → len ≡ l
+pub one_length : (text : List ℕ) (mode len byte m l b : ℕ) → AreSpacedWords (Mode mode ∷ Number 32 len ∷ Number 8 byte ∷ []) text → AreSpacedWords (Mode m ∷ Number 32 l ∷ Number 8 b ∷ []) text → len ≡ l
 one_length text mode len byte m l b h k =
     let e = words_once (Mode mode ∷ Number 32 len ∷ Number 8 byte ∷ []) (Mode m ∷ Number 32 l ∷ Number 8 b ∷ []) text (tt, (refl, (refl, tt))) (tt, (omega arith, (omega arith, tt))) (tt, (omega arith, (omega arith, tt))) h k in cc
 

@@ -5,7 +5,7 @@ use Rattle.std.specs.List.{AllByRecursion}
 use Rattle.std.proofs.lemmas.List.{append_cancel_left}
 use Rattle.script_text.specs.declared.manifest.Manifest.{Manifest}
 use Rattle.script_text.specs.declared.manifest_line.ManifestLine.{ManifestLine}
-use Rattle.script_text.specs.ManifestLines.{AreListed, AreManifestLinesOf, EndsManifest, IsGivenLine, IsListedManifest, IsManifestLineOf}
+use Rattle.script_text.specs.ManifestLines.{AreManifestLines, AreManifestLinesOf, EndsManifest, IsGivenLine, IsListedManifest, IsManifestLineOf}
 use Rattle.script_text.specs.Script.{end_line}
 use Rattle.script_text.specs.Words.{Lacks}
 use Rattle.text_lines.specs.Lines.{ended}
@@ -32,19 +32,19 @@ reads_made ls l text rest line more h d k = (
 )
 
 -- the last line follows, and nothing behind it
-pub listed_end : (text rest line more : List ℕ) (ls : List ManifestLine) → ReadsMade text ls rest → length ls + 1 < 100000 → rest ≡ line ++ (10 ∷ more) → line ≡ codes "end" → more ≡ [] → AreListed 1 text ls None
+pub listed_end : (text rest line more : List ℕ) (ls : List ManifestLine) → ReadsMade text ls rest → length ls + 1 < 100000 → rest ≡ line ++ (10 ∷ more) → line ≡ codes "end" → more ≡ [] → AreManifestLines 1 text ls None
 unfolding EndsManifest
 listed_end text rest line more ls h few cuts is none =
     record { good = h.0; rest = rest; are = h.1; text_is = h.2; ends = (omega (arith, few), cuts ∙ (ap (λ (t : List ℕ). t ++ (10 ∷ more)) is ∙ ap (λ (t : List ℕ). codes "end" ++ (10 ∷ t)) none)) }
 
 -- something follows the last line
-pub listed_late : (text rest line more : List ℕ) (ls : List ManifestLine) (n : ℕ) → ReadsMade text ls rest → length ls + 1 < 100000 → rest ≡ line ++ (10 ∷ more) → line ≡ codes "end" → (more ≡ [] → ⊥) → n ≡ length ls + 3 → AreListed 1 text ls (Some n)
+pub listed_late : (text rest line more : List ℕ) (ls : List ManifestLine) (n : ℕ) → ReadsMade text ls rest → length ls + 1 < 100000 → rest ≡ line ++ (10 ∷ more) → line ≡ codes "end" → (more ≡ [] → ⊥) → n ≡ length ls + 3 → AreManifestLines 1 text ls (Some n)
 unfolding EndsManifest
 listed_late text rest line more ls n h few cuts is some d =
     record { good = h.0; rest = rest; are = h.1; text_is = h.2; ends = inr (inr (omega (arith, few), (more, some, cuts ∙ ap (λ (t : List ℕ). t ++ (10 ∷ more)) is), omega (arith, d))) }
 
 -- no newline follows
-pub listed_open : (text rest : List ℕ) (ls : List ManifestLine) (n : ℕ) → ReadsMade text ls rest → length ls + 1 < 100000 → Lacks 10 rest → n ≡ length ls + 2 → AreListed 1 text ls (Some n)
+pub listed_open : (text rest : List ℕ) (ls : List ManifestLine) (n : ℕ) → ReadsMade text ls rest → length ls + 1 < 100000 → Lacks 10 rest → n ≡ length ls + 2 → AreManifestLines 1 text ls (Some n)
 unfolding EndsManifest
 listed_open text rest ls n h few short d = record {
   good = h.0;
@@ -56,7 +56,7 @@ listed_open text rest ls n h few short d = record {
 
 -- a line follows that is none
 pub listed_bad : (text rest line more : List ℕ) (ls : List ManifestLine) (n : ℕ) → ReadsMade text ls rest → length ls + 1 < 100000 → rest ≡ line ++ (10 ∷ more) → Lacks 10 line
-    → ((l : ManifestLine) → IsManifestLineOf l line → ⊥) → (line ≡ codes "end" → ⊥) → n ≡ length ls + 2 → AreListed 1 text ls (Some n)
+    → ((l : ManifestLine) → IsManifestLineOf l line → ⊥) → (line ≡ codes "end" → ⊥) → n ≡ length ls + 2 → AreManifestLines 1 text ls (Some n)
 unfolding EndsManifest
 listed_bad text rest line more ls n h few cuts short none other d = record {
   good = h.0;
@@ -74,7 +74,7 @@ listed_bad text rest line more ls n h few cuts short none other d = record {
 }
 
 -- there are too many lines
-pub listed_many : (text rest : List ℕ) (ls : List ManifestLine) (n : ℕ) → ReadsMade text ls rest → length ls + 1 ≡ 100000 → n ≡ 100001 → AreListed 1 text ls (Some n)
+pub listed_many : (text rest : List ℕ) (ls : List ManifestLine) (n : ℕ) → ReadsMade text ls rest → length ls + 1 ≡ 100000 → n ≡ 100001 → AreManifestLines 1 text ls (Some n)
 unfolding EndsManifest
 listed_many text rest ls n h many d = record { good = h.0; rest = rest; are = h.1; text_is = h.2; ends = inl (omega (arith, many), omega (arith, many, d)) }
 

@@ -7,8 +7,8 @@ use Rattle.fs_model.specs.declared.op.Op.TheVariants.{Create, Mkdir, Symlink, Li
 use Rattle.script_text.specs.declared.verb.Verb.{Verb}
 use Rattle.script_text.specs.declared.verb.Verb.TheVariants as verbs
 use Rattle.script_text.specs.Script.{op_name, op_words}
-use Rattle.script_text.specs.Verbs.{verb_name, Says}
-use Rattle.script_text.specs.Words.{AreWords, Fixed, Number, Mode, Path, Target, Lacks}
+use Rattle.script_text.specs.Verbs.{verb_name, SaysOperation}
+use Rattle.script_text.specs.Words.{AreSpacedWords, Fixed, Number, Mode, Path, Target, Lacks}
 use Rattle.script_text.proofs.Cutting.{cut_once, not_cut}
 use Rattle.script_text.proofs.Sentences.{Tight, tight_of, tight_lacks, named}
 
@@ -119,7 +119,7 @@ tight_name Flush = tight_of (codes "flush") refl
 tight_name (Truncate slot size) = tight_of (codes "truncate") refl
 
 -- an operation whose words are there has a word of its own
-pub verb_there : (op : Op) (rest : List ℕ) → (op_words op ≡ [] → ⊥) → AreWords (op_words op) rest → (verb : Verb) × (op_name op ≡ verb_name verb)
+pub verb_there : (op : Op) (rest : List ℕ) → (op_words op ≡ [] → ⊥) → AreSpacedWords (op_words op) rest → (verb : Verb) × (op_name op ≡ verb_name verb)
 verb_there (Create path mode) rest some h = (verbs.Create, refl)
 verb_there (Mkdir path mode) rest some h = (verbs.Mkdir, refl)
 verb_there (Symlink path target) rest some h = (verbs.Symlink, refl)
@@ -139,63 +139,63 @@ verb_there (Readlink path) rest some h = (verbs.Readlink, refl)
 verb_there (Chmod path mode) rest some h = (verbs.Chmod, refl)
 verb_there Flush rest some h = absurd (some refl)
 
-pub create_none : (text : List ℕ) → ((path : List ℕ) (mode : ℕ) → AreWords (Path path ∷ Mode mode ∷ []) text → ⊥) → (op : Op) → op_verb op ≡ Some verbs.Create → AreWords (op_words op) text → ⊥
+pub create_none : (text : List ℕ) → ((path : List ℕ) (mode : ℕ) → AreSpacedWords (Path path ∷ Mode mode ∷ []) text → ⊥) → (op : Op) → op_verb op ≡ Some verbs.Create → AreSpacedWords (op_words op) text → ⊥
 create_none text none (Create path mode) e h = none path mode h
 create_none text none op e h = absurd cc
 
-pub mkdir_none : (text : List ℕ) → ((path : List ℕ) (mode : ℕ) → AreWords (Path path ∷ Mode mode ∷ []) text → ⊥) → (op : Op) → op_verb op ≡ Some verbs.Mkdir → AreWords (op_words op) text → ⊥
+pub mkdir_none : (text : List ℕ) → ((path : List ℕ) (mode : ℕ) → AreSpacedWords (Path path ∷ Mode mode ∷ []) text → ⊥) → (op : Op) → op_verb op ≡ Some verbs.Mkdir → AreSpacedWords (op_words op) text → ⊥
 mkdir_none text none (Mkdir path mode) e h = none path mode h
 mkdir_none text none op e h = absurd cc
 
-pub symlink_none : (text : List ℕ) → ((path : List ℕ) (target : List ℕ) → AreWords (Path path ∷ Target target ∷ []) text → ⊥) → (op : Op) → op_verb op ≡ Some verbs.Symlink → AreWords (op_words op) text → ⊥
+pub symlink_none : (text : List ℕ) → ((path : List ℕ) (target : List ℕ) → AreSpacedWords (Path path ∷ Target target ∷ []) text → ⊥) → (op : Op) → op_verb op ≡ Some verbs.Symlink → AreSpacedWords (op_words op) text → ⊥
 symlink_none text none (Symlink path target) e h = none path target h
 symlink_none text none op e h = absurd cc
 
-pub link_none : (text : List ℕ) → ((old : List ℕ) (new : List ℕ) → AreWords (Path old ∷ Path new ∷ []) text → ⊥) → (op : Op) → op_verb op ≡ Some verbs.Link → AreWords (op_words op) text → ⊥
+pub link_none : (text : List ℕ) → ((old : List ℕ) (new : List ℕ) → AreSpacedWords (Path old ∷ Path new ∷ []) text → ⊥) → (op : Op) → op_verb op ≡ Some verbs.Link → AreSpacedWords (op_words op) text → ⊥
 link_none text none (Link old new) e h = none old new h
 link_none text none op e h = absurd cc
 
-pub rename_none : (text : List ℕ) → ((old : List ℕ) (new : List ℕ) → AreWords (Path old ∷ Path new ∷ []) text → ⊥) → (op : Op) → op_verb op ≡ Some verbs.Rename → AreWords (op_words op) text → ⊥
+pub rename_none : (text : List ℕ) → ((old : List ℕ) (new : List ℕ) → AreSpacedWords (Path old ∷ Path new ∷ []) text → ⊥) → (op : Op) → op_verb op ≡ Some verbs.Rename → AreSpacedWords (op_words op) text → ⊥
 rename_none text none (Rename old new) e h = none old new h
 rename_none text none op e h = absurd cc
 
-pub open_none : (text : List ℕ) → ((path : List ℕ) (slot : ℕ) → AreWords (Path path ∷ Number 8 slot ∷ []) text → ⊥) → (op : Op) → op_verb op ≡ Some verbs.Open → AreWords (op_words op) text → ⊥
+pub open_none : (text : List ℕ) → ((path : List ℕ) (slot : ℕ) → AreSpacedWords (Path path ∷ Number 8 slot ∷ []) text → ⊥) → (op : Op) → op_verb op ≡ Some verbs.Open → AreSpacedWords (op_words op) text → ⊥
 open_none text none (OpenFile path slot) e h = none path slot h
 open_none text none op e h = absurd cc
 
-pub read_none : (text : List ℕ) → ((slot : ℕ) (offs : ℕ) (len : ℕ) → AreWords (Number 8 slot ∷ Number 64 offs ∷ Number 32 len ∷ []) text → ⊥) → (op : Op) → op_verb op ≡ Some verbs.Read → AreWords (op_words op) text → ⊥
+pub read_none : (text : List ℕ) → ((slot : ℕ) (offs : ℕ) (len : ℕ) → AreSpacedWords (Number 8 slot ∷ Number 64 offs ∷ Number 32 len ∷ []) text → ⊥) → (op : Op) → op_verb op ≡ Some verbs.Read → AreSpacedWords (op_words op) text → ⊥
 read_none text none (Read slot offs len) e h = none slot offs len h
 read_none text none op e h = absurd cc
 
-pub write_none : (text : List ℕ) → ((slot : ℕ) (offs : ℕ) (len : ℕ) (byte : ℕ) → AreWords (Number 8 slot ∷ Number 64 offs ∷ Number 32 len ∷ Number 8 byte ∷ []) text → ⊥) → (op : Op) → op_verb op ≡ Some verbs.Write → AreWords (op_words op) text → ⊥
+pub write_none : (text : List ℕ) → ((slot : ℕ) (offs : ℕ) (len : ℕ) (byte : ℕ) → AreSpacedWords (Number 8 slot ∷ Number 64 offs ∷ Number 32 len ∷ Number 8 byte ∷ []) text → ⊥) → (op : Op) → op_verb op ≡ Some verbs.Write → AreSpacedWords (op_words op) text → ⊥
 write_none text none (Write slot offs len byte) e h = none slot offs len byte h
 write_none text none op e h = absurd cc
 
-pub truncate_none : (text : List ℕ) → ((slot : ℕ) (size : ℕ) → AreWords (Number 8 slot ∷ Number 64 size ∷ []) text → ⊥) → (op : Op) → op_verb op ≡ Some verbs.Truncate → AreWords (op_words op) text → ⊥
+pub truncate_none : (text : List ℕ) → ((slot : ℕ) (size : ℕ) → AreSpacedWords (Number 8 slot ∷ Number 64 size ∷ []) text → ⊥) → (op : Op) → op_verb op ≡ Some verbs.Truncate → AreSpacedWords (op_words op) text → ⊥
 truncate_none text none (Truncate slot size) e h = none slot size h
 truncate_none text none op e h = absurd cc
 
-pub chmod_none : (text : List ℕ) → ((path : List ℕ) (mode : ℕ) → AreWords (Path path ∷ Mode mode ∷ []) text → ⊥) → (op : Op) → op_verb op ≡ Some verbs.Chmod → AreWords (op_words op) text → ⊥
+pub chmod_none : (text : List ℕ) → ((path : List ℕ) (mode : ℕ) → AreSpacedWords (Path path ∷ Mode mode ∷ []) text → ⊥) → (op : Op) → op_verb op ≡ Some verbs.Chmod → AreSpacedWords (op_words op) text → ⊥
 chmod_none text none (Chmod path mode) e h = none path mode h
 chmod_none text none op e h = absurd cc
 
 -- what stands before the first space is the operation's word
-pub name_is : (text name rest : List ℕ) → Lacks 32 name → text ≡ name ++ (32 ∷ rest) → (op : Op) → AreWords (Fixed (op_name op) ∷ op_words op) text
-    → (op_words op ≡ [] → ⊥) × (name ≡ op_name op) × AreWords (op_words op) rest
+pub name_is : (text name rest : List ℕ) → Lacks 32 name → text ≡ name ++ (32 ∷ rest) → (op : Op) → AreSpacedWords (Fixed (op_name op) ∷ op_words op) text
+    → (op_words op ≡ [] → ⊥) × (name ≡ op_name op) × AreSpacedWords (op_words op) rest
 name_is text name rest lacks e op h = elim (named (op_name op) (op_words op) text h) [
   | inl alone ↦ absurd (not_cut 32 (op_name op) name rest (tight_lacks 32 (op_name op) (omega arith) (tight_name op)) (sym alone.1 ∙ e))
   | inr follows ↦
       let p = cut_once 32 name rest (op_name op) follows.rest lacks (tight_lacks 32 (op_name op) (omega arith) (tight_name op)) (sym e ∙ follows.text) in
-      let P : List ℕ → Type 0 = λ t. AreWords (op_words op) t in
+      let P : List ℕ → Type 0 = λ t. AreSpacedWords (op_words op) t in
       (follows.some, p.0, subst P (sym p.1) follows.words)
 ]
 
-pub verb_none : (text name rest : List ℕ) → Lacks 32 name → text ≡ name ++ (32 ∷ rest) → ((verb : Verb) → name ≡ verb_name verb → ⊥) → (op : Op) → AreWords (Fixed (op_name op) ∷ op_words op) text → ⊥
+pub verb_none : (text name rest : List ℕ) → Lacks 32 name → text ≡ name ++ (32 ∷ rest) → ((verb : Verb) → name ≡ verb_name verb → ⊥) → (op : Op) → AreSpacedWords (Fixed (op_name op) ∷ op_words op) text → ⊥
 verb_none text name rest lacks e none op h =
     let n = name_is text name rest lacks e op h in
     let v = verb_there op rest n.0 n.2 in none v.0 (n.1 ∙ v.1)
 
-pub words_none : (text name rest : List ℕ) (verb : Verb) → Lacks 32 name → text ≡ name ++ (32 ∷ rest) → name ≡ verb_name verb → ((op : Op) → Says verb op rest → ⊥) → (op : Op) → AreWords (Fixed (op_name op) ∷ op_words op) text → ⊥
+pub words_none : (text name rest : List ℕ) (verb : Verb) → Lacks 32 name → text ≡ name ++ (32 ∷ rest) → name ≡ verb_name verb → ((op : Op) → SaysOperation verb op rest → ⊥) → (op : Op) → AreSpacedWords (Fixed (op_name op) ∷ op_words op) text → ⊥
 words_none text name rest verb lacks e is none op h =
     let n = name_is text name rest lacks e op h in none op (sym n.1 ∙ is, n.2)
 

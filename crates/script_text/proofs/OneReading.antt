@@ -5,7 +5,7 @@ use Rattle.fs_model.specs.declared.op.Op.{Op}
 use Rattle.fs_model.specs.declared.op.Op.TheVariants.{Create, Mkdir, Symlink, Link, Unlink, Rmdir, Rename, OpenFile, Close, Read, Write, Truncate, Fsync, Flush, List as Listing, Stat, Readlink, Chmod}
 use Rattle.script_text.specs.declared.verb.Verb.{Verb}
 use Rattle.script_text.specs.Script.{op_name, op_words}
-use Rattle.script_text.specs.Words.{BeginsWithByte, IsSpelled, Word, Fixed, Number, Mode, Path, Target, FileName, IsWord, AreWords}
+use Rattle.script_text.specs.Words.{BeginsWithByte, IsWordSpelled, Word, Fixed, Number, Mode, Path, Target, FileName, IsWord, AreSpacedWords}
 use Rattle.script_text.proofs.Cutting.{cut_once, not_cut}
 use Rattle.script_text.proofs.Naming.{op_verb, of_verb, tight_name, verb_there}
 use Rattle.script_text.proofs.PartLines.{op_bare}
@@ -13,13 +13,13 @@ use Rattle.script_text.proofs.Sentences.{Bare, AllBare, tight_lacks, unbroken_wo
 use Rattle.script_text.proofs.Spelling.{begins_once, some_bytes}
 
 -- a word spells one row of bytes
-pub spelled_once : (xs ys word : List ℕ) → IsSpelled word xs → IsSpelled word ys → xs ≡ ys
+pub spelled_once : (xs ys word : List ℕ) → IsWordSpelled word xs → IsWordSpelled word ys → xs ≡ ys
 spelled_once [] [] word h k = refl
 spelled_once [] (y ∷ ys) word h k = let P : List ℕ → Type 0 = λ t. BeginsWithByte t y k.0 in absurd (some_bytes y k.0 (subst P h k.1))
 spelled_once (x ∷ xs) [] word h k = let P : List ℕ → Type 0 = λ t. BeginsWithByte t x h.0 in absurd (some_bytes x h.0 (subst P k h.1))
 spelled_once (x ∷ xs) (y ∷ ys) word h k =
     let once = begins_once word x y h.0 k.0 h.1 k.1 in
-    let P : List ℕ → Type 0 = λ t. IsSpelled t ys in
+    let P : List ℕ → Type 0 = λ t. IsWordSpelled t ys in
     let rest = spelled_once xs ys h.0 h.2 (subst P (sym once.1) k.2) in
     ap (λ (z : ℕ). z ∷ xs) once.0 ∙ ap (λ (zs : List ℕ). y ∷ zs) rest
 
@@ -49,7 +49,7 @@ word_once (Target a) (Target b) t s x y h k = ap Target (spelled_once a b t h k)
 word_once (FileName a) (FileName b) t s x y h k = ap FileName (sym h.0 ∙ k.0)
 word_once w v t s x y h k = absurd s
 
-pub words_once : (ws vs : List Word) (t : List ℕ) → AllAlike ws vs → AllBare ws → AllBare vs → AreWords ws t → AreWords vs t → ws ≡ vs
+pub words_once : (ws vs : List Word) (t : List ℕ) → AllAlike ws vs → AllBare ws → AllBare vs → AreSpacedWords ws t → AreSpacedWords vs t → ws ≡ vs
 words_once [] [] t s x y h k = refl
 words_once [] (v ∷ vs) t s x y h k = absurd s
 words_once (w ∷ ws) [] t s x y h k = absurd s
@@ -86,7 +86,7 @@ only_flush : (op : Op) → op_words op ≡ [] → op ≡ Flush
 only_flush Flush e = refl
 only_flush op e = absurd cc
 
-pub op_once : (a b : Op) (text : List ℕ) → AreWords (Fixed (op_name a) ∷ op_words a) text → AreWords (Fixed (op_name b) ∷ op_words b) text → a ≡ b
+pub op_once : (a b : Op) (text : List ℕ) → AreSpacedWords (Fixed (op_name a) ∷ op_words a) text → AreSpacedWords (Fixed (op_name b) ∷ op_words b) text → a ≡ b
 op_once a b text h k = elim (named (op_name a) (op_words a) text h) [
   | inl x ↦ elim (named (op_name b) (op_words b) text k) [
     | inl y ↦ only_flush a x.0 ∙ sym (only_flush b y.0)
@@ -98,7 +98,7 @@ op_once a b text h k = elim (named (op_name a) (op_words a) text h) [
         let p = cut_once 32 (op_name a) x.rest (op_name b) y.rest (tight_lacks 32 (op_name a) (omega arith) (tight_name a)) (tight_lacks 32 (op_name b) (omega arith) (tight_name b)) (sym x.text ∙ y.text) in
         let v = verb_there a x.rest x.some x.words in
         let same = same_verb a b v.0 (of_verb a v.0 v.1) (of_verb b v.0 (sym p.0 ∙ v.1)) in
-        let P : List ℕ → Type 0 = λ t. AreWords (op_words b) t in
+        let P : List ℕ → Type 0 = λ t. AreSpacedWords (op_words b) t in
         same.1 (words_once (op_words a) (op_words b) x.rest same.0 (op_bare a) (op_bare b) x.words (subst P (sym p.1) y.words))
   ]
 ]

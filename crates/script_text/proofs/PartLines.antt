@@ -13,7 +13,7 @@ use Rattle.fs_model.specs.declared.op.Op.TheVariants.{Create, Mkdir, Symlink, Li
 use Rattle.script_text.specs.declared.part.Part.{Part}
 use Rattle.script_text.specs.declared.part.Part.TheVariants.{Mount, Unmount, Now, Workers, Line}
 use Rattle.script_text.specs.Script.{op_name, op_words, part_words, IsLineOf, MayStand, IsInRange, given_bytes}
-use Rattle.script_text.specs.Words.{AreWords, Word, Fixed, Number, Lacks}
+use Rattle.script_text.specs.Words.{AreSpacedWords, Word, Fixed, Number, Lacks}
 use Rattle.script_text.proofs.Cutting.{own}
 use Rattle.script_text.proofs.Lines.{number_cut}
 use Rattle.script_text.proofs.Naming.{tight_name}
@@ -21,7 +21,7 @@ use Rattle.script_text.proofs.Sentences.{tight_of, AllBare, one_line}
 use Rattle.script_text.proofs.Spelling.{spelled_bytes}
 
 -- a fixed word, and a number behind it
-pub behind_name : (name : List ℕ) (bits n : ℕ) (line : List ℕ) → AreWords (Fixed name ∷ Number bits n ∷ []) line → line ≡ name ++ (32 ∷ decimal n)
+pub behind_name : (name : List ℕ) (bits n : ℕ) (line : List ℕ) → AreSpacedWords (Fixed name ∷ Number bits n ∷ []) line → line ≡ name ++ (32 ∷ decimal n)
 behind_name name bits n line h = h.4 ∙ (ap (λ (t : List ℕ). t ++ (32 ∷ h.1)) h.2 ∙ ap (λ (t : List ℕ). name ++ (32 ∷ t)) h.3.1)
 
 -- a caller, and an operation behind it
@@ -59,17 +59,17 @@ first_is (Line caller op) line h =
 
 -- a line that begins with a caller is of that caller
 pub of_caller : (part : Part) (line : List ℕ) (caller : ℕ) (rest : List ℕ) → caller ≤ 16 → line ≡ decimal caller ++ (32 ∷ rest) → IsLineOf part line
-    → (op : Op) × (part ≡ Line caller op) × AreWords (Fixed (op_name op) ∷ op_words op) rest
+    → (op : Op) × (part ≡ Line caller op) × AreSpacedWords (Fixed (op_name op) ∷ op_words op) rest
 of_caller part line caller rest few e h = by part h (sym (first_is part line h) ∙ (ap (λ (t : List ℕ). letter (get_or t 0 0)) e ∙ letter_number caller (32 ∷ rest) (omega (arith, few))))
   where
-    by : (q : Part) → IsLineOf q line → first q ≡ 49 → (op : Op) × (q ≡ Line caller op) × AreWords (Fixed (op_name op) ∷ op_words op) rest
+    by : (q : Part) → IsLineOf q line → first q ≡ 49 → (op : Op) × (q ≡ Line caller op) × AreSpacedWords (Fixed (op_name op) ∷ op_words op) rest
     by Mount k d = absurd (omega (arith, d))
     by Unmount k d = absurd (omega (arith, d))
     by (Now now) k d = absurd (omega (arith, d))
     by (Workers count) k d = absurd (omega (arith, d))
     by (Line other op) k d =
         let both = number_cut 32 other caller k.words.1 rest (omega arith) (omega (arith, k.allowed.1)) (omega (arith, few)) (sym (behind_caller other op line k) ∙ e) in
-        let P : List ℕ → Type 0 = λ t. AreWords (Fixed (op_name op) ∷ op_words op) t in
+        let P : List ℕ → Type 0 = λ t. AreSpacedWords (Fixed (op_name op) ∷ op_words op) t in
         (op, ap (λ (x : ℕ). Line x op) both.0, subst P both.1 k.words.3)
 
 -- and it is none where no caller's line may stand, or the caller is 0
@@ -81,7 +81,7 @@ no_caller mounted line caller rest few e none part stands h =
     let both = subst P is.1 (stands, h) in none both.0 both.1.allowed.0
 
 -- a caller's line
-pub caller_line : (line : List ℕ) (caller : ℕ) (op : Op) (rest : List ℕ) → 1 ≤ caller → caller ≤ 16 → line ≡ decimal caller ++ (32 ∷ rest) → AreWords (Fixed (op_name op) ∷ op_words op) rest → length line ≤ 10000
+pub caller_line : (line : List ℕ) (caller : ℕ) (op : Op) (rest : List ℕ) → 1 ≤ caller → caller ≤ 16 → line ≡ decimal caller ++ (32 ∷ rest) → AreSpacedWords (Fixed (op_name op) ∷ op_words op) rest → length line ≤ 10000
     → IsLineOf (Line caller op) line
 caller_line line caller op rest some few e words short =
     record { allowed = (some, few); words = (decimal caller, rest, (omega (arith, few), refl), words, e); short = short }
@@ -128,7 +128,7 @@ part_bare (Line caller op) = (omega arith, (tight_name op, op_bare op))
 pub part_line : (part : Part) (line : List ℕ) → IsLineOf part line → Lacks 10 line
 part_line part line h = one_line (part_words part) line (part_bare part) h.words
 
-given_are_bytes : (op : Op) (text : List ℕ) → AreWords (op_words op) text → list_all are_bytes (given_bytes op) ≡ true
+given_are_bytes : (op : Op) (text : List ℕ) → AreSpacedWords (op_words op) text → list_all are_bytes (given_bytes op) ≡ true
 given_are_bytes (Create path mode) text h = and_from (are_bytes path) true (spelled_bytes path h.0 h.2.0) refl
 given_are_bytes (Mkdir path mode) text h = and_from (are_bytes path) true (spelled_bytes path h.0 h.2.0) refl
 given_are_bytes (Symlink path target) text h = and_from (are_bytes path) (are_bytes target && true) (spelled_bytes path h.0 h.2.0) (and_from (are_bytes target) true (spelled_bytes target h.1 h.3) refl)
@@ -160,6 +160,6 @@ part_in_range (Now now) line h = h.words.3.0
 part_in_range (Workers count) line h = h.allowed
 part_in_range (Line caller op) line h = (h.allowed, by (op_words op) refl h.words.3)
   where
-    by : (ws : List Word) → op_words op ≡ ws → AreWords (Fixed (op_name op) ∷ ws) h.words.1 → list_all are_bytes (given_bytes op) ≡ true
+    by : (ws : List Word) → op_words op ≡ ws → AreSpacedWords (Fixed (op_name op) ∷ ws) h.words.1 → list_all are_bytes (given_bytes op) ≡ true
     by [] e k = alone op e
-    by (w ∷ ws) e k = let P : List Word → Type 0 = λ l. AreWords l k.1 in given_are_bytes op k.1 (subst P (sym e) k.3)
+    by (w ∷ ws) e k = let P : List Word → Type 0 = λ l. AreSpacedWords l k.1 in given_are_bytes op k.1 (subst P (sym e) k.3)

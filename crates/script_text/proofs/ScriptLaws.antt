@@ -9,7 +9,7 @@ use Rattle.fs_model.specs.declared.op.Op.{Op}
 use Rattle.script_text.specs.declared.part.Part.{Part}
 use Rattle.script_text.specs.declared.part.Part.TheVariants.{Mount, Unmount, Now, Workers, Line}
 use Rattle.script_text.specs.Script.{AreLinesOf, IsLineOf, MayStand, mounted_after, Leads, IsBadAfter, end_line, op_name, op_words}
-use Rattle.script_text.specs.Words.{Fixed, AreWords}
+use Rattle.script_text.specs.Words.{Fixed, AreSpacedWords}
 use Rattle.script_text.proofs.OneReading.{op_once}
 use Rattle.text_lines.specs.Lines.{ended}
 use Rattle.script_text.proofs.Cutting.{cut_once}
@@ -194,7 +194,7 @@ part_once m p q line h k a b = by p q h k a b (sym (first_is p line a) ∙ first
     by (Line c o) (Workers w) s t a b e = absurd (omega (arith, e))
     by (Line c o) (Line d l) s t a b e =
         let both = number_cut 32 c d a.words.1 b.words.1 (omega arith) (omega (arith, a.allowed.1)) (omega (arith, b.allowed.1)) (sym (behind_caller c o line a) ∙ behind_caller d l line b) in
-        let P : List ℕ → Type 0 = λ t. AreWords (Fixed (op_name l) ∷ op_words l) t in
+        let P : List ℕ → Type 0 = λ t. AreSpacedWords (Fixed (op_name l) ∷ op_words l) t in
         let ops = op_once o l a.words.1 a.words.3 (subst P (sym both.1) b.words.3) in
         ap (λ (x : ℕ). Line x o) both.0 ∙ ap (λ (x : Op). Line d x) ops
     by (Workers w) Mount s t a b e = absurd (omega (arith, e))

@@ -9,7 +9,7 @@ use Rattle.std.proofs.lemmas.Bool.Decides.{nat_tests}
 use Rattle.std.proofs.lemmas.Str.Parse.{IsNumeralModel, numerals_by_value, tells_digits}
 use Rattle.std.proofs.lemmas.Fmt.{digits_decimal}
 use Rattle.script_text.specs.Escapes.{hex_digit}
-use Rattle.script_text.specs.Words.{Lacks, BeginsWithByte, IsSpelled, is_octal_digit, Word, Fixed, Number, Mode, Path, Target, FileName, IsWord, AreWords}
+use Rattle.script_text.specs.Words.{Lacks, BeginsWithByte, IsWordSpelled, is_octal_digit, Word, Fixed, Number, Mode, Path, Target, FileName, IsWord, AreSpacedWords}
 use Rattle.script_text.proofs.Cutting.{lacks_append, cut_once, not_cut}
 
 -- each byte stands behind the blanks of ASCII
@@ -48,7 +48,7 @@ tight_begin text byte rest h t = elim h.1 [
   | inr hex ↦ subst Tight (sym hex) (omega arith, (tight_hex (byte / 16), (tight_hex (byte % 16), t)))
 ]
 
-tight_spelled : (bytes word : List ℕ) → IsSpelled word bytes → Tight word
+tight_spelled : (bytes word : List ℕ) → IsWordSpelled word bytes → Tight word
 tight_spelled [] word h = subst Tight (sym h) tt
 tight_spelled (byte ∷ bytes) word h = tight_begin word byte h.0 h.1 (tight_spelled bytes h.0 h.2)
 
@@ -81,20 +81,20 @@ unbroken_word (Target target) t b h = tight_unbroken t (tight_spelled target t h
 unbroken_word (FileName name) t b h = subst IsUnbroken (sym h.0) (h.1.no_space, h.1.no_newline)
 
 -- what stands before the first space is the first word
-pub split : (w v : Word) (ws : List Word) (text front rest : List ℕ) → Bare w → Lacks 32 front → text ≡ front ++ (32 ∷ rest) → AreWords (w ∷ v ∷ ws) text
-    → IsWord w front × AreWords (v ∷ ws) rest
+pub split : (w v : Word) (ws : List Word) (text front rest : List ℕ) → Bare w → Lacks 32 front → text ≡ front ++ (32 ∷ rest) → AreSpacedWords (w ∷ v ∷ ws) text
+    → IsWord w front × AreSpacedWords (v ∷ ws) rest
 split w v ws text front rest b l e h =
     let p = cut_once 32 front rest h.0 h.1 l (unbroken_word w h.0 b h.2).0 (sym e ∙ h.4) in
     let P : List ℕ → Type 0 = λ t. IsWord w t in
-    let Q : List ℕ → Type 0 = λ t. AreWords (v ∷ ws) t in
+    let Q : List ℕ → Type 0 = λ t. AreSpacedWords (v ∷ ws) t in
     (subst P (sym p.0) h.2, subst Q (sym p.1) h.3)
 
 -- two words have a space between them
-pub uncut : (w v : Word) (ws : List Word) (text : List ℕ) → Lacks 32 text → AreWords (w ∷ v ∷ ws) text → ⊥
+pub uncut : (w v : Word) (ws : List Word) (text : List ℕ) → Lacks 32 text → AreSpacedWords (w ∷ v ∷ ws) text → ⊥
 uncut w v ws text l h = not_cut 32 text h.0 h.1 l h.4
 
 -- a line of words has one newline, at its end
-pub one_line : (ws : List Word) (text : List ℕ) → AllBare ws → AreWords ws text → Lacks 10 text
+pub one_line : (ws : List Word) (text : List ℕ) → AllBare ws → AreSpacedWords ws text → Lacks 10 text
 one_line [] text b h = let P : List ℕ → Type 0 = λ t. Lacks 10 t in subst P (sym h) tt
 one_line (w ∷ []) text b h = (unbroken_word w text b.0 h).1
 one_line (w ∷ v ∷ ws) text b h =
@@ -105,13 +105,13 @@ one_line (w ∷ v ∷ ws) text b h =
 pub record Follows (name : List ℕ) (ws : List Word) (whole : List ℕ) : Type 0 where
   pub rest : List ℕ
   pub some : ws ≡ [] → ⊥
-  pub words : AreWords ws rest
+  pub words : AreSpacedWords ws rest
   pub text : whole ≡ name ++ (32 ∷ rest)
 
-pub named : (name : List ℕ) (ws : List Word) (text : List ℕ) → AreWords (Fixed name ∷ ws) text → ((ws ≡ []) × (text ≡ name)) ⊎ Follows name ws text
+pub named : (name : List ℕ) (ws : List Word) (text : List ℕ) → AreSpacedWords (Fixed name ∷ ws) text → ((ws ≡ []) × (text ≡ name)) ⊎ Follows name ws text
 named name [] text h = inl (refl, h)
 named name (w ∷ ws) text h = inr (record { rest = h.1; some = λ e. absurd cc; words = h.3; text = h.4 ∙ ap (λ (t : List ℕ). t ++ (32 ∷ h.1)) h.2 })
 
-pub begun : (name : List ℕ) (ws : List Word) (text rest : List ℕ) → (ws ≡ [] → ⊥) → AreWords ws rest → text ≡ name ++ (32 ∷ rest) → AreWords (Fixed name ∷ ws) text
+pub begun : (name : List ℕ) (ws : List Word) (text rest : List ℕ) → (ws ≡ [] → ⊥) → AreSpacedWords ws rest → text ≡ name ++ (32 ∷ rest) → AreSpacedWords (Fixed name ∷ ws) text
 begun name [] text rest some h e = absurd (some refl)
 begun name (w ∷ ws) text rest some h e = (name, rest, refl, h, e)

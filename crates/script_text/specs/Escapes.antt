@@ -6,5 +6,5 @@ abbrev pub hex_digit : ℕ → ℕ
 hex_digit n = if nat_lt n 10 then 48 + n else 87 + n
 
 -- printable ASCII other than the space and `%`
-abbrev pub is_shown : ℕ → Bool
-is_shown byte = nat_lt 32 byte && nat_lt byte 127 && not (byte == 37)
+abbrev pub is_printable : ℕ → Bool
+is_printable byte = nat_lt 32 byte && nat_lt byte 127 && not (byte == 37)

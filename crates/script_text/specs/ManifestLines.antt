@@ -6,7 +6,7 @@ use Rattle.script_text.specs.declared.manifest_line.ManifestLine.{ManifestLine}
 use Rattle.script_text.specs.declared.manifest_line.ManifestLine.TheVariants.{Dir, File, Copy, Symlink, Link}
 use Rattle.script_text.specs.Manifest.{HasRange, volume_line}
 use Rattle.script_text.specs.Script.{BeginsWithEnd, end_line}
-use Rattle.script_text.specs.Words.{Word, Fixed, Number, Mode, Path, Target, FileName, IsFileWord, AreWords}
+use Rattle.script_text.specs.Words.{Word, Fixed, Number, Mode, Path, Target, FileName, IsFileWord, AreSpacedWords}
 use Rattle.text_lines.specs.Lines.{ended}
 
 -- the first word of a line
@@ -32,7 +32,7 @@ HasFewBytes line = Unit {0}
 
 -- the text is this line, without its newline: its words, in 10,000 bytes at most
 pub record IsManifestLineOf (line : ManifestLine) (text : List ℕ) : Type 0 where
-  pub words : AreWords (Fixed (made_name line) ∷ made_words line) text
+  pub words : AreSpacedWords (Fixed (made_name line) ∷ made_words line) text
   pub few : HasFewBytes line
   pub short : length text ≤ 10000
 
@@ -53,7 +53,7 @@ EndsManifest before rest (Some number) = ((before ≡ 100000) × (number ≡ bef
     ⊎ ((before < 100000) × ((more : List ℕ) × (more ≢ []) × (rest ≡ end_line ++ more)) × (number ≡ before + 2))
 
 -- the text is these lines, with so many before them, and then ends well, or has its first bad line there
-pub record AreListed (before : ℕ) (text : List ℕ) (lines : List ManifestLine) (bad : Option ℕ) : Type 0 where
+pub record AreManifestLines (before : ℕ) (text : List ℕ) (lines : List ManifestLine) (bad : Option ℕ) : Type 0 where
   pub good : List ℕ
   pub rest : List ℕ
   pub are : AreManifestLinesOf lines good
@@ -65,7 +65,7 @@ pub record IsListedManifest (text : List ℕ) (volume : Manifest) (lines : List 
   pub behind : List ℕ
   pub text_is : text ≡ volume_line volume ++ behind
   pub range : HasRange volume
-  pub listed : AreListed 1 behind lines bad
+  pub listed : AreManifestLines 1 behind lines bad
 
 -- no line with a geometry stands first
 abbrev pub HasNoVolume : List ℕ → Type 0

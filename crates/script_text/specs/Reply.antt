@@ -15,7 +15,7 @@ use Rattle.fs_model.specs.declared.refusal.Scarce.{Scarce}
 use Rattle.fs_model.specs.declared.refusal.Scarce.TheVariants.{Space, Empty, Index, Area}
 use Rattle.fs_model.specs.declared.refusal.Table.{Table}
 use Rattle.fs_model.specs.declared.refusal.Table.TheVariants.{Orphans, Inodes}
-use Rattle.script_text.specs.Escapes.{hex_digit, is_shown}
+use Rattle.script_text.specs.Escapes.{hex_digit, is_printable}
 use Rattle.script_text.specs.Words.{octal}
 use Rattle.text_lines.specs.Lines.{spaced, ended}
 
@@ -90,7 +90,7 @@ bytes_words (byte ∷ bytes) = decimal (length (byte ∷ bytes)) ∷ runs_text (
 
 -- a byte of a name: itself, or `%` and its two hex digits
 abbrev pub escaped_byte : ℕ → List ℕ
-escaped_byte byte = if is_shown byte then byte ∷ [] else 37 ∷ hex_byte byte
+escaped_byte byte = if is_printable byte then byte ∷ [] else 37 ∷ hex_byte byte
 
 -- a name or a target
 abbrev pub escaped : List ℕ → List ℕ

@@ -9,7 +9,7 @@ use Rattle.script_text.specs.declared.part.Part.TheVariants.{Mount, Unmount, Now
 use Rattle.script_text.specs.declared.fault.TextFault.{TextFault}
 use Rattle.script_text.specs.declared.fault.TextFault.TheVariants.{Memory, Line as FaultLine}
 use Rattle.text_lines.specs.Lines.{ended}
-use Rattle.script_text.specs.Words.{Word, Fixed, Number, Mode, Path, Target, AreWords}
+use Rattle.script_text.specs.Words.{Word, Fixed, Number, Mode, Path, Target, AreSpacedWords}
 
 -- the word for an operation
 abbrev pub op_name : Op → List ℕ
@@ -74,7 +74,7 @@ HasAllowedNumber part = Unit {0}
 -- a line of the part, without its newline: its words, in 10,000 bytes at most
 pub record IsLineOf (part : Part) (line : List ℕ) : Type 0 where
   pub allowed : HasAllowedNumber part
-  pub words : AreWords (part_words part) line
+  pub words : AreSpacedWords (part_words part) line
   pub short : length line ≤ 10000
 
 -- the text is a line for each part

@@ -4,7 +4,7 @@ use Rattle.fs_model.specs.declared.op.Op.{Op}
 use Rattle.script_text.specs.declared.verb.Verb.{Verb}
 use Rattle.script_text.specs.declared.verb.Verb.TheVariants.{Create, Mkdir, Symlink, Link, Unlink, Rmdir, Rename, Open, Close, Read, Write, Truncate, Fsync, List as Listing, Stat, Readlink, Chmod}
 use Rattle.script_text.specs.Script.{op_name, op_words}
-use Rattle.script_text.specs.Words.{AreWords}
+use Rattle.script_text.specs.Words.{AreSpacedWords}
 
 -- the word
 abbrev pub verb_name : Verb → List ℕ
@@ -27,16 +27,16 @@ verb_name Readlink = codes "readlink"
 verb_name Chmod = codes "chmod"
 
 -- whether it makes, moves or takes away a name
-abbrev pub is_of_names : Verb → Bool
-is_of_names Create = true
-is_of_names Mkdir = true
-is_of_names Symlink = true
-is_of_names Link = true
-is_of_names Unlink = true
-is_of_names Rmdir = true
-is_of_names Rename = true
-is_of_names verb = false
+abbrev pub is_verb_of_names : Verb → Bool
+is_verb_of_names Create = true
+is_verb_of_names Mkdir = true
+is_verb_of_names Symlink = true
+is_verb_of_names Link = true
+is_verb_of_names Unlink = true
+is_verb_of_names Rmdir = true
+is_verb_of_names Rename = true
+is_verb_of_names verb = false
 
 -- an operation has this name, and these are the words behind it
-abbrev pub Says : Verb → Op → List ℕ → Type 0
-Says verb op text = (op_name op ≡ verb_name verb) × AreWords (op_words op) text
+abbrev pub SaysOperation : Verb → Op → List ℕ → Type 0
+SaysOperation verb op text = (op_name op ≡ verb_name verb) × AreSpacedWords (op_words op) text

@@ -4,7 +4,7 @@ use Rattle.std.specs.List.{list_any, list_all}
 use Rattle.std.specs.Fmt.{decimal, digits}
 use Rattle.std.specs.Str.{IsUtf8}
 use Rattle.fs_model.specs.Path.{components, is_absolute, is_empty}
-use Rattle.script_text.specs.Escapes.{is_shown, hex_digit}
+use Rattle.script_text.specs.Escapes.{is_printable, hex_digit}
 
 -- a number in octal digits, as a mode is written
 abbrev pub octal : ℕ → List ℕ
@@ -16,18 +16,18 @@ Lacks byte [] = Unit {0}
 Lacks byte (x ∷ xs) = (x ≢ byte) × Lacks byte xs
 
 -- no plus in front, and no zero before other digits
-abbrev pub IsPlain : List ℕ → Type 0
-IsPlain bytes = (slice_index bytes 0 ≢ 43) × (slice_index bytes 0 ≡ 48 → length bytes ≡ 1)
+abbrev pub IsPlainNumeral : List ℕ → Type 0
+IsPlainNumeral bytes = (slice_index bytes 0 ≢ 43) × (slice_index bytes 0 ≡ 48 → length bytes ≡ 1)
 
 -- The text begins with a byte, and this follows: the byte itself, where it is printable ASCII other than the space and `%`, or `%` and its two lower-case hex digits.
 abbrev pub BeginsWithByte : List ℕ → ℕ → List ℕ → Type 0
 BeginsWithByte text byte rest = (byte < 256)
-    × (((is_shown byte ≡ true) × (text ≡ byte ∷ rest)) ⊎ (text ≡ 37 ∷ hex_digit (byte / 16) ∷ hex_digit (byte % 16) ∷ rest))
+    × (((is_printable byte ≡ true) × (text ≡ byte ∷ rest)) ⊎ (text ≡ 37 ∷ hex_digit (byte / 16) ∷ hex_digit (byte % 16) ∷ rest))
 
 -- the word spells the bytes, one after another
-abbrev pub IsSpelled : List ℕ → List ℕ → Type 0
-IsSpelled word [] = word ≡ []
-IsSpelled word (byte ∷ bytes) = (rest : List ℕ) × BeginsWithByte word byte rest × IsSpelled rest bytes
+abbrev pub IsWordSpelled : List ℕ → List ℕ → Type 0
+IsWordSpelled word [] = word ≡ []
+IsWordSpelled word (byte ∷ bytes) = (rest : List ℕ) × BeginsWithByte word byte rest × IsWordSpelled rest bytes
 
 -- `/`, or components each after a slash, none of them empty
 abbrev pub is_rooted : List ℕ → Bool
@@ -69,12 +69,12 @@ abbrev pub IsWord : Word → List ℕ → Type 0
 IsWord (Fixed text) word = word ≡ text
 IsWord (Number bits n) word = (n < 2 ^ bits) × (word ≡ decimal n)
 IsWord (Mode mode) word = IsMode word mode
-IsWord (Path path) word = IsSpelled word path × (is_rooted path ≡ true)
-IsWord (Target target) word = IsSpelled word target
+IsWord (Path path) word = IsWordSpelled word path × (is_rooted path ≡ true)
+IsWord (Target target) word = IsWordSpelled word target
 IsWord (FileName name) word = (word ≡ name) × IsFileWord name
 
 -- the text is such words, with one space between them
-abbrev pub AreWords : List Word → List ℕ → Type 0
-AreWords [] text = text ≡ []
-AreWords (word ∷ []) text = IsWord word text
-AreWords (word ∷ next ∷ words) text = (first : List ℕ) × (rest : List ℕ) × IsWord word first × AreWords (next ∷ words) rest × (text ≡ first ++ (32 ∷ rest))
+abbrev pub AreSpacedWords : List Word → List ℕ → Type 0
+AreSpacedWords [] text = text ≡ []
+AreSpacedWords (word ∷ []) text = IsWord word text
+AreSpacedWords (word ∷ next ∷ words) text = (first : List ℕ) × (rest : List ℕ) × IsWord word first × AreSpacedWords (next ∷ words) rest × (text ≡ first ++ (32 ∷ rest))

@@ -1,7 +1,7 @@
 // Manifests, line by line.
 
 ghost use Rattle.std.specs.Prelude.{◌≡◌, IfOk, IfErr};
-ghost use Rattle.script_text.specs.ManifestLines.{AreListed, HasNoVolume, IsListedManifest};
+ghost use Rattle.script_text.specs.ManifestLines.{AreManifestLines, HasNoVolume, IsListedManifest};
 ghost use Rattle.script_text.specs.Script.{OnLine};
 
 use crate::TextFault;
@@ -36,7 +36,7 @@ pub fn list_manifest(alloc: Global, bytes: &[u8]) -> Result<ListedManifest, Text
 
 // The lines behind the first, and the number of the first bad one.
 fn list_lines(alloc: Global, text: &[u8]) -> Result<(Vec<ManifestLine>, Option<u64>), AllocError>
-    ensures { IfOk result (λ parts. AreListed 1 text.now parts.0.items parts.1) }
+    ensures { IfOk result (λ parts. AreManifestLines 1 text.now parts.0.items parts.1) }
 {
     let mut lines = Vec::new(alloc);
     let mut rest = text;

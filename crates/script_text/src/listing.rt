@@ -3,7 +3,7 @@
 ghost use Rattle.std.specs.Prelude.{◌≡◌, ◌++◌, ◌∷◌, [], OnOk};
 ghost use Rattle.text_lines.specs.Lines.{spaced};
 ghost use Rattle.script_text.specs.Reply.{escaped, escaped_byte, kind_letter, row_word, rows_words};
-ghost use Rattle.script_text.specs.Escapes.{is_shown};
+ghost use Rattle.script_text.specs.Escapes.{is_printable};
 ghost use Rattle.script_text.specs.Words.{octal};
 
 use crate::run::hex_digit;
@@ -59,7 +59,7 @@ fn push_byte(line: &mut Vec<u8>, byte: u8) -> Result<(), AllocError>
 
 /// Whether a byte stands in a word by itself.
 pub fn is_shown(byte: u8) -> bool
-    ensures { result ≡ is_shown byte }
+    ensures { result ≡ is_printable byte }
 {
     b' ' < byte && byte < 127 && byte != b'%'
 }

@@ -3,7 +3,7 @@
 ghost use Rattle.std.specs.Prelude.{◌≡◌, ◌∷◌, [], IfOk, IfSome, IfNone, true, false, ℕ, List, codes};
 ghost use Rattle.script_text.specs.ManifestLines.{IsManifestLineOf, HasFewBytes, made_name, made_words};
 ghost use Rattle.script_text.specs.MadeNames.{SaysMade};
-ghost use Rattle.script_text.specs.Words.{AreWords, FileName, IsFileWord, Mode, Number};
+ghost use Rattle.script_text.specs.Words.{AreSpacedWords, FileName, IsFileWord, Mode, Number};
 ghost use Rattle.script_text.specs.declared.manifest_line.ManifestLine.{ManifestLine};
 
 use crate::arguments::{length_and_byte, path_and_mode, path_and_target, two_paths};
@@ -125,8 +125,8 @@ fn file_line(alloc: Global, words: &[u8]) -> Result<Option<ManifestLine>, AllocE
 
 // A mode, a length and a byte.
 fn mode_and_bytes(words: &[u8]) -> Option<(u32, u32, u8)>
-    ensures found { IfSome result (λ parts. AreWords (Mode parts.0 ∷ Number 32 parts.1 ∷ Number 8 parts.2 ∷ []) words.now) }
-    ensures none { IfNone result ((mode len byte : ℕ) → AreWords (Mode mode ∷ Number 32 len ∷ Number 8 byte ∷ []) words.now → ⊥) }
+    ensures found { IfSome result (λ parts. AreSpacedWords (Mode parts.0 ∷ Number 32 parts.1 ∷ Number 8 parts.2 ∷ []) words.now) }
+    ensures none { IfNone result ((mode len byte : ℕ) → AreSpacedWords (Mode mode ∷ Number 32 len ∷ Number 8 byte ∷ []) words.now → ⊥) }
 {
     let (first, rest) = cut(words, b' ')?;
     let mode = mode_word(first)?;
@@ -153,8 +153,8 @@ fn copy_line(alloc: Global, words: &[u8]) -> Result<Option<ManifestLine>, AllocE
 
 // A mode and a file's name.
 fn mode_and_name(words: &[u8]) -> Option<(u32, &[u8])>
-    ensures found { IfSome result (λ parts. AreWords (Mode parts.0 ∷ FileName parts.1.now ∷ []) words.now) }
-    ensures none { IfNone result ((mode : ℕ) → (name : List ℕ) → AreWords (Mode mode ∷ FileName name ∷ []) words.now → ⊥) }
+    ensures found { IfSome result (λ parts. AreSpacedWords (Mode parts.0 ∷ FileName parts.1.now ∷ []) words.now) }
+    ensures none { IfNone result ((mode : ℕ) → (name : List ℕ) → AreSpacedWords (Mode mode ∷ FileName name ∷ []) words.now → ⊥) }
 {
     let (first, rest) = cut(words, b' ')?;
     let mode = mode_word(first)?;

@@ -2,7 +2,7 @@
 
 ghost use Rattle.std.specs.Prelude.{◌≡◌, ◌<◌, ◌≤◌, ◌^◌, ◌++◌, ◌∷◌, ℕ, List, IfSome, IfNone, IsTrue, ◌↔◌};
 ghost use Rattle.std.specs.Fmt.{decimal};
-ghost use Rattle.script_text.specs.Words.{IsPlain};
+ghost use Rattle.script_text.specs.Words.{IsPlainNumeral};
 
 use crate::cut::cut;
 use std::str;
@@ -63,7 +63,7 @@ fn number_of_text(text: &str) -> Option<u64>
 }
 
 fn is_plain(bytes: &[u8]) -> bool
-    ensures { IsTrue result ↔ IsPlain bytes.now }
+    ensures { IsTrue result ↔ IsPlainNumeral bytes.now }
 {
     if bytes.is_empty() {
         return true;

@@ -3,8 +3,8 @@
 ghost use Rattle.std.specs.Prelude.{◌≡◌, ◌∷◌, IfOk, IfSome, IfNone, ℕ, List};
 ghost use Rattle.fs_model.specs.declared.op.Op.{Op};
 ghost use Rattle.script_text.specs.Script.{op_name, op_words};
-ghost use Rattle.script_text.specs.Verbs.{Says};
-ghost use Rattle.script_text.specs.Words.{AreWords, Fixed};
+ghost use Rattle.script_text.specs.Verbs.{SaysOperation};
+ghost use Rattle.script_text.specs.Words.{AreSpacedWords, Fixed};
 ghost use Rattle.script_text.specs.declared.verb.Verb.{Verb};
 
 use crate::arguments::{
@@ -19,8 +19,8 @@ use std::alloc::{AllocError, Global};
 
 /// The operation that the words behind a caller spell. The error is want of memory.
 pub fn operation(alloc: Global, words: &[u8]) -> Result<Option<Op>, AllocError>
-    ensures found { IfOk result (λ found. IfSome found (λ op. AreWords (Fixed (op_name op) ∷ op_words op) words.now)) }
-    ensures none { IfOk result (λ found. IfNone found ((op : Op) → AreWords (Fixed (op_name op) ∷ op_words op) words.now → ⊥)) }
+    ensures found { IfOk result (λ found. IfSome found (λ op. AreSpacedWords (Fixed (op_name op) ∷ op_words op) words.now)) }
+    ensures none { IfOk result (λ found. IfNone found ((op : Op) → AreSpacedWords (Fixed (op_name op) ∷ op_words op) words.now → ⊥)) }
 {
     let Some((name, rest)) = cut(words, b' ') else {
         if words == b"flush".as_slice() {
@@ -37,8 +37,8 @@ pub fn operation(alloc: Global, words: &[u8]) -> Result<Option<Op>, AllocError>
 
 /// The operation of a verb that the words behind it spell.
 fn operation_of(alloc: Global, verb: Verb, words: &[u8]) -> Result<Option<Op>, AllocError>
-    ensures found { IfOk result (λ found. IfSome found (λ op. Says verb op words.now)) }
-    ensures none { IfOk result (λ found. IfNone found ((op : Op) → Says verb op words.now → ⊥)) }
+    ensures found { IfOk result (λ found. IfSome found (λ op. SaysOperation verb op words.now)) }
+    ensures none { IfOk result (λ found. IfNone found ((op : Op) → SaysOperation verb op words.now → ⊥)) }
 {
     match verb {
         Verb::Create => create(alloc, words),
@@ -62,8 +62,8 @@ fn operation_of(alloc: Global, verb: Verb, words: &[u8]) -> Result<Option<Op>, A
 }
 
 fn create(alloc: Global, words: &[u8]) -> Result<Option<Op>, AllocError>
-    ensures found { IfOk result (λ found. IfSome found (λ op. Says Verb.Create op words.now)) }
-    ensures none { IfOk result (λ found. IfNone found ((op : Op) → Says Verb.Create op words.now → ⊥)) }
+    ensures found { IfOk result (λ found. IfSome found (λ op. SaysOperation Verb.Create op words.now)) }
+    ensures none { IfOk result (λ found. IfNone found ((op : Op) → SaysOperation Verb.Create op words.now → ⊥)) }
 {
     let Some((path, mode)) = path_and_mode(alloc, words)? else {
         return Ok(None);
@@ -72,8 +72,8 @@ fn create(alloc: Global, words: &[u8]) -> Result<Option<Op>, AllocError>
 }
 
 fn mkdir(alloc: Global, words: &[u8]) -> Result<Option<Op>, AllocError>
-    ensures found { IfOk result (λ found. IfSome found (λ op. Says Verb.Mkdir op words.now)) }
-    ensures none { IfOk result (λ found. IfNone found ((op : Op) → Says Verb.Mkdir op words.now → ⊥)) }
+    ensures found { IfOk result (λ found. IfSome found (λ op. SaysOperation Verb.Mkdir op words.now)) }
+    ensures none { IfOk result (λ found. IfNone found ((op : Op) → SaysOperation Verb.Mkdir op words.now → ⊥)) }
 {
     let Some((path, mode)) = path_and_mode(alloc, words)? else {
         return Ok(None);
@@ -82,8 +82,8 @@ fn mkdir(alloc: Global, words: &[u8]) -> Result<Option<Op>, AllocError>
 }
 
 fn symlink(alloc: Global, words: &[u8]) -> Result<Option<Op>, AllocError>
-    ensures found { IfOk result (λ found. IfSome found (λ op. Says Verb.Symlink op words.now)) }
-    ensures none { IfOk result (λ found. IfNone found ((op : Op) → Says Verb.Symlink op words.now → ⊥)) }
+    ensures found { IfOk result (λ found. IfSome found (λ op. SaysOperation Verb.Symlink op words.now)) }
+    ensures none { IfOk result (λ found. IfNone found ((op : Op) → SaysOperation Verb.Symlink op words.now → ⊥)) }
 {
     let Some((path, target)) = path_and_target(alloc, words)? else {
         return Ok(None);
@@ -92,8 +92,8 @@ fn symlink(alloc: Global, words: &[u8]) -> Result<Option<Op>, AllocError>
 }
 
 fn link(alloc: Global, words: &[u8]) -> Result<Option<Op>, AllocError>
-    ensures found { IfOk result (λ found. IfSome found (λ op. Says Verb.Link op words.now)) }
-    ensures none { IfOk result (λ found. IfNone found ((op : Op) → Says Verb.Link op words.now → ⊥)) }
+    ensures found { IfOk result (λ found. IfSome found (λ op. SaysOperation Verb.Link op words.now)) }
+    ensures none { IfOk result (λ found. IfNone found ((op : Op) → SaysOperation Verb.Link op words.now → ⊥)) }
 {
     let Some((old, new)) = two_paths(alloc, words)? else {
         return Ok(None);
@@ -102,8 +102,8 @@ fn link(alloc: Global, words: &[u8]) -> Result<Option<Op>, AllocError>
 }
 
 fn unlink(alloc: Global, words: &[u8]) -> Result<Option<Op>, AllocError>
-    ensures found { IfOk result (λ found. IfSome found (λ op. Says Verb.Unlink op words.now)) }
-    ensures none { IfOk result (λ found. IfNone found ((op : Op) → Says Verb.Unlink op words.now → ⊥)) }
+    ensures found { IfOk result (λ found. IfSome found (λ op. SaysOperation Verb.Unlink op words.now)) }
+    ensures none { IfOk result (λ found. IfNone found ((op : Op) → SaysOperation Verb.Unlink op words.now → ⊥)) }
 {
     let Some(path) = path_word(alloc, words)? else {
         return Ok(None);
@@ -112,8 +112,8 @@ fn unlink(alloc: Global, words: &[u8]) -> Result<Option<Op>, AllocError>
 }
 
 fn rmdir(alloc: Global, words: &[u8]) -> Result<Option<Op>, AllocError>
-    ensures found { IfOk result (λ found. IfSome found (λ op. Says Verb.Rmdir op words.now)) }
-    ensures none { IfOk result (λ found. IfNone found ((op : Op) → Says Verb.Rmdir op words.now → ⊥)) }
+    ensures found { IfOk result (λ found. IfSome found (λ op. SaysOperation Verb.Rmdir op words.now)) }
+    ensures none { IfOk result (λ found. IfNone found ((op : Op) → SaysOperation Verb.Rmdir op words.now → ⊥)) }
 {
     let Some(path) = path_word(alloc, words)? else {
         return Ok(None);
@@ -122,8 +122,8 @@ fn rmdir(alloc: Global, words: &[u8]) -> Result<Option<Op>, AllocError>
 }
 
 fn rename(alloc: Global, words: &[u8]) -> Result<Option<Op>, AllocError>
-    ensures found { IfOk result (λ found. IfSome found (λ op. Says Verb.Rename op words.now)) }
-    ensures none { IfOk result (λ found. IfNone found ((op : Op) → Says Verb.Rename op words.now → ⊥)) }
+    ensures found { IfOk result (λ found. IfSome found (λ op. SaysOperation Verb.Rename op words.now)) }
+    ensures none { IfOk result (λ found. IfNone found ((op : Op) → SaysOperation Verb.Rename op words.now → ⊥)) }
 {
     let Some((old, new)) = two_paths(alloc, words)? else {
         return Ok(None);
@@ -132,8 +132,8 @@ fn rename(alloc: Global, words: &[u8]) -> Result<Option<Op>, AllocError>
 }
 
 fn open(alloc: Global, words: &[u8]) -> Result<Option<Op>, AllocError>
-    ensures found { IfOk result (λ found. IfSome found (λ op. Says Verb.Open op words.now)) }
-    ensures none { IfOk result (λ found. IfNone found ((op : Op) → Says Verb.Open op words.now → ⊥)) }
+    ensures found { IfOk result (λ found. IfSome found (λ op. SaysOperation Verb.Open op words.now)) }
+    ensures none { IfOk result (λ found. IfNone found ((op : Op) → SaysOperation Verb.Open op words.now → ⊥)) }
 {
     let Some((path, slot)) = path_and_slot(alloc, words)? else {
         return Ok(None);
@@ -142,24 +142,24 @@ fn open(alloc: Global, words: &[u8]) -> Result<Option<Op>, AllocError>
 }
 
 fn close(words: &[u8]) -> Option<Op>
-    ensures found { IfSome result (λ op. Says Verb.Close op words.now) }
-    ensures none { IfNone result ((op : Op) → Says Verb.Close op words.now → ⊥) }
+    ensures found { IfSome result (λ op. SaysOperation Verb.Close op words.now) }
+    ensures none { IfNone result ((op : Op) → SaysOperation Verb.Close op words.now → ⊥) }
 {
     let slot = slot_word(words)?;
     Some(Op::Close { slot })
 }
 
 fn read(words: &[u8]) -> Option<Op>
-    ensures found { IfSome result (λ op. Says Verb.Read op words.now) }
-    ensures none { IfNone result ((op : Op) → Says Verb.Read op words.now → ⊥) }
+    ensures found { IfSome result (λ op. SaysOperation Verb.Read op words.now) }
+    ensures none { IfNone result ((op : Op) → SaysOperation Verb.Read op words.now → ⊥) }
 {
     let (slot, offs, len) = read_words(words)?;
     Some(Op::Read { slot, offs, len })
 }
 
 fn write(words: &[u8]) -> Option<Op>
-    ensures found { IfSome result (λ op. Says Verb.Write op words.now) }
-    ensures none { IfNone result ((op : Op) → Says Verb.Write op words.now → ⊥) }
+    ensures found { IfSome result (λ op. SaysOperation Verb.Write op words.now) }
+    ensures none { IfNone result ((op : Op) → SaysOperation Verb.Write op words.now → ⊥) }
 {
     let (slot, offs, len, byte) = write_words(words)?;
     Some(Op::Write {
@@ -171,24 +171,24 @@ fn write(words: &[u8]) -> Option<Op>
 }
 
 fn truncate(words: &[u8]) -> Option<Op>
-    ensures found { IfSome result (λ op. Says Verb.Truncate op words.now) }
-    ensures none { IfNone result ((op : Op) → Says Verb.Truncate op words.now → ⊥) }
+    ensures found { IfSome result (λ op. SaysOperation Verb.Truncate op words.now) }
+    ensures none { IfNone result ((op : Op) → SaysOperation Verb.Truncate op words.now → ⊥) }
 {
     let (slot, size) = slot_and_size(words)?;
     Some(Op::Truncate { slot, size })
 }
 
 fn fsync(words: &[u8]) -> Option<Op>
-    ensures found { IfSome result (λ op. Says Verb.Fsync op words.now) }
-    ensures none { IfNone result ((op : Op) → Says Verb.Fsync op words.now → ⊥) }
+    ensures found { IfSome result (λ op. SaysOperation Verb.Fsync op words.now) }
+    ensures none { IfNone result ((op : Op) → SaysOperation Verb.Fsync op words.now → ⊥) }
 {
     let slot = slot_word(words)?;
     Some(Op::Fsync { slot })
 }
 
 fn list(alloc: Global, words: &[u8]) -> Result<Option<Op>, AllocError>
-    ensures found { IfOk result (λ found. IfSome found (λ op. Says Verb.List op words.now)) }
-    ensures none { IfOk result (λ found. IfNone found ((op : Op) → Says Verb.List op words.now → ⊥)) }
+    ensures found { IfOk result (λ found. IfSome found (λ op. SaysOperation Verb.List op words.now)) }
+    ensures none { IfOk result (λ found. IfNone found ((op : Op) → SaysOperation Verb.List op words.now → ⊥)) }
 {
     let Some(path) = path_word(alloc, words)? else {
         return Ok(None);
@@ -197,8 +197,8 @@ fn list(alloc: Global, words: &[u8]) -> Result<Option<Op>, AllocError>
 }
 
 fn stat(alloc: Global, words: &[u8]) -> Result<Option<Op>, AllocError>
-    ensures found { IfOk result (λ found. IfSome found (λ op. Says Verb.Stat op words.now)) }
-    ensures none { IfOk result (λ found. IfNone found ((op : Op) → Says Verb.Stat op words.now → ⊥)) }
+    ensures found { IfOk result (λ found. IfSome found (λ op. SaysOperation Verb.Stat op words.now)) }
+    ensures none { IfOk result (λ found. IfNone found ((op : Op) → SaysOperation Verb.Stat op words.now → ⊥)) }
 {
     let Some(path) = path_word(alloc, words)? else {
         return Ok(None);
@@ -207,8 +207,8 @@ fn stat(alloc: Global, words: &[u8]) -> Result<Option<Op>, AllocError>
 }
 
 fn readlink(alloc: Global, words: &[u8]) -> Result<Option<Op>, AllocError>
-    ensures found { IfOk result (λ found. IfSome found (λ op. Says Verb.Readlink op words.now)) }
-    ensures none { IfOk result (λ found. IfNone found ((op : Op) → Says Verb.Readlink op words.now → ⊥)) }
+    ensures found { IfOk result (λ found. IfSome found (λ op. SaysOperation Verb.Readlink op words.now)) }
+    ensures none { IfOk result (λ found. IfNone found ((op : Op) → SaysOperation Verb.Readlink op words.now → ⊥)) }
 {
     let Some(path) = path_word(alloc, words)? else {
         return Ok(None);
@@ -217,8 +217,8 @@ fn readlink(alloc: Global, words: &[u8]) -> Result<Option<Op>, AllocError>
 }
 
 fn chmod(alloc: Global, words: &[u8]) -> Result<Option<Op>, AllocError>
-    ensures found { IfOk result (λ found. IfSome found (λ op. Says Verb.Chmod op words.now)) }
-    ensures none { IfOk result (λ found. IfNone found ((op : Op) → Says Verb.Chmod op words.now → ⊥)) }
+    ensures found { IfOk result (λ found. IfSome found (λ op. SaysOperation Verb.Chmod op words.now)) }
+    ensures none { IfOk result (λ found. IfNone found ((op : Op) → SaysOperation Verb.Chmod op words.now → ⊥)) }
 {
     let Some((path, mode)) = path_and_mode(alloc, words)? else {
         return Ok(None);

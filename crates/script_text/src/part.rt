@@ -3,7 +3,7 @@
 ghost use Rattle.std.specs.Prelude.{◌≡◌, ◌≤◌, IfOk, IfSome, IfNone, ℕ, List, ◌++◌, ◌∷◌, Bool};
 ghost use Rattle.std.specs.Fmt.{decimal};
 ghost use Rattle.script_text.specs.Script.{HasAllowedNumber, IsLineOf, MayStand, mounted_after, part_words};
-ghost use Rattle.script_text.specs.Words.{AreWords};
+ghost use Rattle.script_text.specs.Words.{AreSpacedWords};
 ghost use Rattle.script_text.specs.declared.part.Part.{Part};
 ghost use Rattle.script_text.specs.declared.part.Part.TheVariants.{Mount, Unmount, Now, Workers, Line};
 
@@ -61,7 +61,7 @@ pub fn next_part(alloc: Global, mounted: bool, line: &[u8]) -> Result<Option<Par
 fn control(mounted: bool, line: &[u8]) -> Option<Part>
     ensures stands { IfSome result (λ part. MayStand mounted part) }
     ensures allowed { IfSome result (λ part. HasAllowedNumber part) }
-    ensures found { IfSome result (λ part. AreWords (part_words part) line.now) }
+    ensures found { IfSome result (λ part. AreSpacedWords (part_words part) line.now) }
     ensures none { IfNone result ((part : Part) → MayStand mounted part → IsLineOf part line.now → (caller : ℕ) × (rest : List ℕ) × (caller ≤ 16) × (line.now ≡ decimal caller ++ (32 ∷ rest))) }
 {
     if !mounted && line == b"mount".as_slice() {

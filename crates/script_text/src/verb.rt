@@ -1,7 +1,7 @@
 // The words for operations that have words behind them.
 
 ghost use Rattle.std.specs.Prelude.{◌≡◌, IsTrue, IfSome, IfNone};
-ghost use Rattle.script_text.specs.Verbs.{verb_name, is_of_names};
+ghost use Rattle.script_text.specs.Verbs.{verb_name, is_verb_of_names};
 ghost use Rattle.script_text.specs.declared.verb.Verb.{Verb};
 
 /// An operation that has words behind its own.
@@ -70,7 +70,7 @@ pub fn verb_of(name: &[u8]) -> Option<Verb>
 // The same of the operations that make, move or take away a name.
 fn verb_of_names(name: &[u8]) -> Option<Verb>
     ensures found { IfSome result (λ verb. name.now ≡ verb_name verb) }
-    ensures none { IfNone result ((verb : Verb) → IsTrue (is_of_names verb) → name.now ≡ verb_name verb → ⊥) }
+    ensures none { IfNone result ((verb : Verb) → IsTrue (is_verb_of_names verb) → name.now ≡ verb_name verb → ⊥) }
 {
     if name == b"create".as_slice() {
         return Some(Verb::Create);

@@ -4,7 +4,7 @@ ghost use Rattle.std.specs.Prelude.{◌≡◌, ◌<◌, ◌/◌, ◌%◌, ◌∷
 ghost use Rattle.std.specs.List.{list_any};
 ghost use Rattle.fs_model.specs.Path.{between_slashes, is_empty};
 ghost use Rattle.script_text.specs.Escapes.{hex_digit};
-ghost use Rattle.script_text.specs.Words.{BeginsWithByte, IsMode, IsSpelled, IsWord, Path, Target, is_rooted, octal_number};
+ghost use Rattle.script_text.specs.Words.{BeginsWithByte, IsMode, IsWordSpelled, IsWord, Path, Target, is_rooted, octal_number};
 
 use crate::listing::is_shown;
 use std::alloc::{AllocError, Global};
@@ -26,9 +26,9 @@ pub fn path_word(alloc: Global, word: &[u8]) -> Result<Option<Name>, AllocError>
 
 /// The bytes that a word spells. The error is want of memory.
 pub fn spelled(alloc: Global, word: &[u8]) -> Result<Option<Name>, AllocError>
-    ensures found { IfOk result (λ found. IfSome found (λ bytes. IsSpelled word.now bytes)) }
-    ensures only { IfOk result (λ found. IfSome found (λ bytes. (others : List ℕ) → IsSpelled word.now others → bytes ≡ others)) }
-    ensures none { IfOk result (λ found. IfNone found ((bytes : List ℕ) → IsSpelled word.now bytes → ⊥)) }
+    ensures found { IfOk result (λ found. IfSome found (λ bytes. IsWordSpelled word.now bytes)) }
+    ensures only { IfOk result (λ found. IfSome found (λ bytes. (others : List ℕ) → IsWordSpelled word.now others → bytes ≡ others)) }
+    ensures none { IfOk result (λ found. IfNone found ((bytes : List ℕ) → IsWordSpelled word.now bytes → ⊥)) }
 {
     let mut bytes = Vec::new(alloc);
     let mut rest = word;

@@ -15,8 +15,8 @@ use Rattle.fs_model.specs.declared.change.Change.TheVariants.{SetInode, SetEntry
 use Rattle.fs_model.specs.declared.inode.Kind.{Kind}
 use Rattle.group_nodes.specs.Nodes.{bits_of, change_of, inode_of, kind_of_bits, kind_of_type}
 use Rattle.leaf_map.specs.Kept.{Placed, node_key}
-use Rattle.leaf_map.specs.Recovered.{in_order}
-use Rattle.journal_scan.specs.Content.{content_of, number_told, told}
+use Rattle.leaf_map.specs.Recovered.{nodes_in_order}
+use Rattle.journal_scan.specs.Content.{node_content_of, number_told, told}
 use Rattle.journal_scan.specs.declared.journal_node.JournalNode.{JournalNode}
 use Rattle.journal_scan.specs.declared.node_content.NodeContent.TheVariants.{Inode, Entry, Unknown}
 use Rattle.log_replay.specs.KeyToldLaws.{known}
@@ -39,7 +39,7 @@ entry_number : (node : DentNode) (linked attribute : Bool) → number_told (cond
 entry_number node linked true = refl
 entry_number node linked false = refl
 
-pub number_is : (node : LeafNode) → number_told (content_of node) ≡ (key_words (node_key node)).0
+pub number_is : (node : LeafNode) → number_told (node_content_of node) ≡ (key_words (node_key node)).0
 number_is (inode node) = inode_number node (not (node.nlink == 0)) (is_some (kind_of_bits (bits_of node.mode)))
 number_is (block node) = refl
 number_is (entry node) = entry_number node (not (node.inum == 0)) node.attribute
@@ -65,7 +65,7 @@ entry_unchanging node false true k h = refl
 entry_unchanging node false false None h = absurd (false≢true h)
 entry_unchanging node false false (Some kind) h = refl
 
-pub unchanging_is : (node : LeafNode) → IsLeaf node → is_unchanging (content_of node) ≡ not (is_some (change_of node))
+pub unchanging_is : (node : LeafNode) → IsLeaf node → is_unchanging (node_content_of node) ≡ not (is_some (change_of node))
 unchanging_is (inode node) leaf = inode_unchanging node (node.nlink == 0) (kind_of_bits (bits_of node.mode))
 unchanging_is (block node) leaf = refl
 unchanging_is (entry node) leaf = entry_unchanging node node.attribute (node.inum == 0) (kind_of_type node.kind) (known node.kind leaf.kind_known)
@@ -79,23 +79,23 @@ some_told : (b : Bool) (v w : WrongValue) → cond b (Some v) None ≡ Some w �
 some_told true v w h = (refl, cc)
 some_told false v w h = absurd cc
 
-pub first_unchanging : (placed : List Placed) (items : List JournalNode) (o : Option WrongValue) → AllByRecursion (λ (x : Placed). IsLeaf x.node) placed → items ≡ map told (in_order placed)
+pub first_unchanging : (placed : List Placed) (items : List JournalNode) (o : Option WrongValue) → AllByRecursion (λ (x : Placed). IsLeaf x.node) placed → items ≡ map told (nodes_in_order placed)
     → o ≡ fold (λ first x. sooner_of first (unchanging_told x)) None items → IsFirstOf (IsUnchanging placed) o
 first_unchanging placed items o leaves e is =
     let P : List JournalNode → Type 0 = λ xs. IsFirstOf (IsToldIn unchanging_told xs) o in
-    first_same (IsToldIn unchanging_told (map told (in_order placed))) (IsUnchanging placed) o to from
+    first_same (IsToldIn unchanging_told (map told (nodes_in_order placed))) (IsUnchanging placed) o to from
     (subst P e (subst (IsFirstOf (IsToldIn unchanging_told items)) (sym is) (first_told unchanging_told items)))
   where
-    to : (at : Wrong) → IsToldIn unchanging_told (map told (in_order placed)) at → IsUnchanging placed at
+    to : (at : Wrong) → IsToldIn unchanging_told (map told (nodes_in_order placed)) at → IsUnchanging placed at
     to at (y, one, (w, tell, is)) =
-        let r = one_of_map told y (in_order placed) one in
+        let r = one_of_map told y (nodes_in_order placed) one in
         let x = r.0 in
         let there = one_in_order x placed r.1 in
-        let t = some_told (is_unchanging (content_of x.node)) (wrong_node_told (told x)) w (ap unchanging_told (sym r.2) ∙ tell) in
+        let t = some_told (is_unchanging (node_content_of x.node)) (wrong_node_told (told x)) w (ap unchanging_told (sym r.2) ∙ tell) in
         (x, there, none_of_false (change_of x.node) (sym (unchanging_is x.node (all_at (λ (z : Placed). IsLeaf z.node) x placed leaves there)) ∙ t.0), is ∙ ap wrong_at (sym t.1) ∙ wrong_is x)
 
-    from : (at : Wrong) → IsUnchanging placed at → IsToldIn unchanging_told (map told (in_order placed)) at
+    from : (at : Wrong) → IsUnchanging placed at → IsToldIn unchanging_told (map told (nodes_in_order placed)) at
     from at (x, one, none, is) =
         let leaf = all_at (λ (z : Placed). IsLeaf z.node) x placed leaves one in
-        let yes : is_unchanging (content_of x.node) ≡ true = unchanging_is x.node leaf ∙ ap (λ (c : Option Change). not (is_some c)) none in
-        (told x, map_of_one told x (in_order placed) (in_order_one x placed one), (wrong_node_told (told x), ap (λ (b : Bool). cond b (Some (wrong_node_told (told x))) None) yes, is ∙ sym (wrong_is x)))
+        let yes : is_unchanging (node_content_of x.node) ≡ true = unchanging_is x.node leaf ∙ ap (λ (c : Option Change). not (is_some c)) none in
+        (told x, map_of_one told x (nodes_in_order placed) (in_order_one x placed one), (wrong_node_told (told x), ap (λ (b : Bool). cond b (Some (wrong_node_told (told x))) None) yes, is ∙ sym (wrong_is x)))

@@ -21,11 +21,11 @@ use Rattle.log_replay.specs.KeyToldLaws.{if_set, told_key}
 use Rattle.log_replay.specs.Replay.{told_committed}
 use Rattle.log_replay.specs.Things.{is_at_leaf, key_told}
 use Rattle.log_replay.specs.declared.committed_leaf.CommittedLeaf.{CommittedLeaf}
-use Rattle.sound_image.specs.Image.{named_by}
+use Rattle.sound_image.specs.Image.{named_by_ref_node}
 use Rattle.sound_image.specs.Leaves.{IsPlacedIn}
 use Rattle.sound_image.specs.Tree.{IsCopy}
 use Rattle.sound_image.specs.Wrong.{IsOneOf, Wrong}
-use Rattle.sound_image.specs.WrongLaws.{at_end, front_or_end, in_front, one_of_none}
+use Rattle.sound_image.specs.WrongLaws.{is_one_at_end, front_or_end, in_front, one_of_none}
 use Rattle.image_check.specs.FirstLaws.{first_alone, first_of_both, first_same}
 use Rattle.image_check.specs.WrongValues.{IsFirstOf, sooner_of}
 use Rattle.image_check.specs.declared.wrong_value.WrongValue.{WrongValue}
@@ -74,13 +74,13 @@ turned true false false found = refl
 turned false l true found = refl
 turned false l false found = refl
 
-pub has_own : (contents : ℕ → List ℕ) (references : List RefNode) (named : List Named) (c : Committed) → named ≡ map named_by references → FoundStands contents c → has_own_told references (told_committed c) ≡ is_some (own_node named c)
+pub has_own : (contents : ℕ → List ℕ) (references : List RefNode) (named : List Named) (c : Committed) → named ≡ map named_by_ref_node references → FoundStands contents c → has_own_told references (told_committed c) ≡ is_some (own_node named c)
 has_own contents references named c log stands = by c.found stands
   where
     by : (o : Option Placed) → FoundStands contents (record { leaf = c.leaf; found = o }) → has_own_told references (told_committed (record { leaf = c.leaf; found = o })) ≡ is_some (own_node named (record { leaf = c.leaf; found = o }))
     by None h = refl
     by (Some found) h =
-        let n = in_bud (map named_by references) c.leaf in
+        let n = in_bud (map named_by_ref_node references) c.leaf in
         ap (λ t. t && not n) (at_leaf c.leaf found h.is.is)
         ∙ turned (is_shown (shown found.node)) (same_leaf c.leaf (kept_at found).leaf) (not n) found
         ∙ ap (λ (ns : List Named). is_some (own_node ns (record { leaf = c.leaf; found = Some found }))) (sym log)
@@ -169,7 +169,7 @@ told_none [] e = refl
 told_none (c ∷ rest) e = absurd cc
 
 pub left_next : (contents : ℕ → List ℕ) (named : List Named) (rank : ℕ) (references : List RefNode) (leaves : List Committed) (left more : List CommittedLeaf) (first : CommittedLeaf) (node : LeafNode) → left ≡ first ∷ more
-    → ((c : Committed) → first ≡ told_committed c → FoundStands contents c → IsOwnAt (map named_by references) rank c node → ⊥) → OwnLeft contents named rank references leaves left node → OwnLeft contents named rank references leaves more node
+    → ((c : Committed) → first ≡ told_committed c → FoundStands contents c → IsOwnAt (map named_by_ref_node references) rank c node → ⊥) → OwnLeft contents named rank references leaves left node → OwnLeft contents named rank references leaves more node
 left_next contents named rank references leaves left more first node cut none before =
     let (c, rest, is, here, further) = told_first first more before.rest (sym cut ∙ before.read.told_leaves) in
     let stand = subst (AllByRecursion (FoundStands contents)) is before.read.stand in
@@ -184,7 +184,7 @@ left_next contents named rank references leaves left more first node cut none be
     }
 
 pub left_found : (contents : ℕ → List ℕ) (named : List Named) (rank : ℕ) (references : List RefNode) (leaves : List Committed) (left more : List CommittedLeaf) (first : CommittedLeaf) (node : LeafNode) → left ≡ first ∷ more
-    → ((c : Committed) → first ≡ told_committed c → FoundStands contents c → IsOwnAt (map named_by references) rank c node) → OwnLeft contents named rank references leaves left node → IsTrue true ↔ IsOwnAmong named rank leaves node
+    → ((c : Committed) → first ≡ told_committed c → FoundStands contents c → IsOwnAt (map named_by_ref_node references) rank c node) → OwnLeft contents named rank references leaves left node → IsTrue true ↔ IsOwnAmong named rank leaves node
 left_found contents named rank references leaves left more first node cut own before =
     let (c, rest, is, here, further) = told_first first more before.rest (sym cut ∙ before.read.told_leaves) in
     let stand = subst (AllByRecursion (FoundStands contents)) is before.read.stand in
@@ -265,7 +265,7 @@ swapped true false = refl
 swapped false true = refl
 swapped false false = refl
 
-lost_told : (contents : ℕ → List ℕ) (references : List RefNode) (named : List Named) (rank : ℕ) (leaves : List Committed) → named ≡ map named_by references → AllByRecursion (FoundStands contents) leaves
+lost_told : (contents : ℕ → List ℕ) (references : List RefNode) (named : List Named) (rank : ℕ) (leaves : List Committed) → named ≡ map named_by_ref_node references → AllByRecursion (FoundStands contents) leaves
     → list_any (is_lost_at references rank) (map told_committed leaves) ≡ list_any (is_lost named rank) leaves
 lost_told contents references named rank [] log stand = refl
 lost_told contents references named rank (c ∷ leaves) log stand =
@@ -346,7 +346,7 @@ false_here parts done x first next none e h =
     let here = first_alone Q (wrong_node_told (told x)) (wrong_is x) (λ at w. w ∙ sym (wrong_is x)) in
     subst (IsFirstOf (IsFalseIn parts (done ++ x ∷ []))) (sym e)
     (first_same (λ at. IsFalseIn parts done at ⊎ Q at) (IsFalseIn parts (done ++ x ∷ [])) (sooner_of first (Some (wrong_node_told (told x))))
-    (λ at w. elim w [ inl old ↦ (old.0, in_front old.0 x done old.1, old.2, old.3) | inr is ↦ (x, at_end x done, none, is) ])
+    (λ at w. elim w [ inl old ↦ (old.0, in_front old.0 x done old.1, old.2, old.3) | inr is ↦ (x, is_one_at_end x done, none, is) ])
     (λ at w. elim (front_or_end w.0 x done w.1) [
       | inl there ↦ inl (w.0, there, w.2, w.3)
       | inr same ↦ inr (w.3 ∙ ap wrong_node same)

@@ -14,11 +14,11 @@ use Rattle.fs_model.specs.declared.change.Change.TheVariants as changes
 use Rattle.leaf_map.specs.Kept.{Kept, Placed, shown, shown_by}
 use Rattle.leaf_map.specs.Parts.{is_shown}
 use Rattle.leaf_map.specs.Recovered.{stand_in}
-use Rattle.sound_image.specs.Breaches.{number_of}
+use Rattle.sound_image.specs.Breaches.{inode_number_of}
 use Rattle.sound_image.specs.Leaves.{IsPlacedIn}
 use Rattle.sound_image.specs.Tree.{ShowsItsNode}
 use Rattle.sound_image.specs.Wrong.{Wrong, differs}
-use Rattle.sound_image.specs.WrongLaws.{at_end, front_or_end, in_front, one_of_none}
+use Rattle.sound_image.specs.WrongLaws.{is_one_at_end, front_or_end, in_front, one_of_none}
 use Rattle.image_check.specs.FirstLaws.{first_alone, first_of_both, first_same}
 use Rattle.image_check.specs.WrongValues.{IsFirstOf, sooner_of, wrong_at}
 use Rattle.image_check.specs.declared.wrong_value.WrongValue.{WrongValue}
@@ -136,7 +136,7 @@ is_shown_is (Some (changes.SetBlock ino number bytes)) s e = ap is_shown_told (s
 is_shown_is (Some (changes.CutBlocks ino old_size new_size)) s e = ap is_shown_told (sym (some_same _ s e))
 is_shown_is (Some (changes.DropInode ino)) s e = absurd cc
 
-number_told : (x : Kept) (c : Option Change) (s : Shown) → shown_by x ≡ c → shown_told c ≡ Some s → number_shown (key_words x.leaf.key).0 s ≡ number_of x
+number_told : (x : Kept) (c : Option Change) (s : Shown) → shown_by x ≡ c → shown_told c ≡ Some s → number_shown (key_words x.leaf.key).0 s ≡ inode_number_of x
 number_told x None s f e = ap (number_shown (key_words x.leaf.key).0) (sym (some_same _ s e)) ∙ rw f refl
 number_told x (Some (changes.SetInode ino inode)) s f e = ap (number_shown (key_words x.leaf.key).0) (sym (some_same _ s e)) ∙ rw f refl
 number_told x (Some (changes.SetEntry entry)) s f e = ap (number_shown (key_words x.leaf.key).0) (sym (some_same _ s e)) ∙ rw f refl
@@ -158,7 +158,7 @@ unlike_first contents x leaf s stands is e tests = by (stands && is_shown_told s
     d : WrongValue
     d = record { lnum = leaf.leaf.lnum; offs = leaf.leaf.offs; wanted = number_shown (key_words leaf.leaf.key).0 s; found = 0 }
 
-    here : wrong_at d ≡ record { lnum = x.leaf.lnum; offs = x.leaf.offs; misfit = differs (number_of x) 0 }
+    here : wrong_at d ≡ record { lnum = x.leaf.lnum; offs = x.leaf.offs; misfit = differs (inode_number_of x) 0 }
     here =
         ap (λ (l : Leaf). record { lnum = l.lnum; offs = l.offs; misfit = differs (number_shown (key_words l.key).0 s) 0 }) is
         ∙ ap (λ (n : ℕ). record { lnum = x.leaf.lnum; offs = x.leaf.offs; misfit = differs n 0 }) (number_told x (shown_by x) s refl e)
@@ -260,7 +260,7 @@ unlike_next contents done x a b h k = first_same (λ at. IsUnlikeIn contents don
   where
     to : (at : Wrong) → IsUnlikeIn contents done at ⊎ IsUnlike contents x at → IsUnlikeIn contents (done ++ x ∷ []) at
     to at (inl (y, one, wrong)) = (y, in_front y x done one, wrong)
-    to at (inr wrong) = (x, at_end x done, wrong)
+    to at (inr wrong) = (x, is_one_at_end x done, wrong)
 
     from : (at : Wrong) → IsUnlikeIn contents (done ++ x ∷ []) at → IsUnlikeIn contents done at ⊎ IsUnlike contents x at
     from at (y, one, wrong) = elim (front_or_end y x done one) [

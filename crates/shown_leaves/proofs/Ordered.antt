@@ -1,7 +1,7 @@
 -- Nodes in order of number are the same nodes.
 use Rattle.std.proofs.Common.{◌≡◌, ◌⊎◌, Bool, true, false, cond, List, [], ◌∷◌, inl, inr, fold, nat_lt}
 use Rattle.leaf_map.specs.Kept.{Placed}
-use Rattle.leaf_map.specs.Recovered.{in_order, placed_node}
+use Rattle.leaf_map.specs.Recovered.{nodes_in_order, placed_node}
 use Rattle.sound_image.specs.Wrong.{IsOneOf}
 use Rattle.sound_image.specs.WrongLaws.{first_or_behind, one_behind, one_first, one_of_none}
 
@@ -43,8 +43,8 @@ from_ordered x ys (y ∷ nodes) one = elim (from_ordered x (placed_node ys y) no
   | inr more ↦ inr (one_behind x y nodes more)
 ]
 
-pub in_order_one : (x : Placed) (nodes : List Placed) → IsOneOf x nodes → IsOneOf x (in_order nodes)
+pub in_order_one : (x : Placed) (nodes : List Placed) → IsOneOf x nodes → IsOneOf x (nodes_in_order nodes)
 in_order_one x nodes one = ordered_from x [] nodes (inr one)
 
-pub one_in_order : (x : Placed) (nodes : List Placed) → IsOneOf x (in_order nodes) → IsOneOf x nodes
+pub one_in_order : (x : Placed) (nodes : List Placed) → IsOneOf x (nodes_in_order nodes) → IsOneOf x nodes
 one_in_order x nodes one = elim (from_ordered x [] nodes one) [ inl none ↦ absurd (one_of_none x none) | inr there ↦ there ]

@@ -11,11 +11,11 @@ use Rattle.index_tree.specs.declared.leaf.Leaf.{Leaf}
 use Rattle.sound_image.specs.Wrong.{Wrong}
 use Rattle.std.proofs.lemmas.Bool.{false≢true}
 use Rattle.std.proofs.lemmas.Bool.Decides.{nat_tests}
-use Rattle.sound_image.specs.WrongLaws.{head_of}
+use Rattle.sound_image.specs.WrongLaws.{first_of_equal}
 use Rattle.image_check.specs.FirstLaws.{first_alone, first_of_both, first_same}
 use Rattle.image_check.specs.WrongValues.{IsFirstOf, sooner_of, wrong_at}
 use Rattle.image_check.specs.declared.wrong_value.WrongValue.{WrongValue}
-use Rattle.shown_leaves.specs.Spots.{AreLeavesApart, IsApartFrom, IsTwiceIn, Spot, has_spot, is_at_one_place, is_same_spot, spot_of, wrong_leaf}
+use Rattle.shown_leaves.specs.Spots.{AreSpotsApart, IsApartFrom, IsTwiceIn, Spot, has_spot, is_at_one_place, is_same_spot, spot_of, wrong_leaf}
 
 -- ---- the same spot is the same leaf
 then_equal : (o p : Ordering) → is_eq (ordering_then o p) ≡ (is_eq o && is_eq p)
@@ -73,12 +73,12 @@ seen_next old new done leaf before step q = step (spot_of q) ∙ ap (λ t. t || 
 -- a leaf behind others is the last, or stands before it
 split_end : (done : List Leaf) (last leaf : Leaf) (before behind : List Leaf) → done ++ last ∷ [] ≡ before ++ (leaf ∷ behind)
     → ((done ≡ before) × (last ≡ leaf)) ⊎ ((rest : List Leaf) × (done ≡ before ++ (leaf ∷ rest)))
-split_end [] last leaf [] behind e = inl (refl, (head_of last leaf [] behind e).0)
-split_end [] last leaf (y ∷ []) behind e = let f = (head_of last y [] (leaf ∷ behind) e).1 in absurd cc
-split_end [] last leaf (y ∷ z ∷ before) behind e = let f = (head_of last y [] (z ∷ before ++ (leaf ∷ behind)) e).1 in absurd cc
-split_end (x ∷ done) last leaf [] behind e = inr (done, ap (λ z. z ∷ done) (head_of x leaf (done ++ last ∷ []) behind e).0)
+split_end [] last leaf [] behind e = inl (refl, (first_of_equal last leaf [] behind e).0)
+split_end [] last leaf (y ∷ []) behind e = let f = (first_of_equal last y [] (leaf ∷ behind) e).1 in absurd cc
+split_end [] last leaf (y ∷ z ∷ before) behind e = let f = (first_of_equal last y [] (z ∷ before ++ (leaf ∷ behind)) e).1 in absurd cc
+split_end (x ∷ done) last leaf [] behind e = inr (done, ap (λ z. z ∷ done) (first_of_equal x leaf (done ++ last ∷ []) behind e).0)
 split_end (x ∷ done) last leaf (y ∷ before) behind e =
-    let h = head_of x y (done ++ last ∷ []) (before ++ (leaf ∷ behind)) e in
+    let h = first_of_equal x y (done ++ last ∷ []) (before ++ (leaf ∷ behind)) e in
     elim (split_end done last leaf before behind h.1) [
       | inl (same, is) ↦ inl (ap (λ zs. x ∷ zs) same ∙ ap (λ z. z ∷ before) h.0, is)
       | inr (rest, more) ↦ inr (rest, ap (λ zs. x ∷ zs) more ∙ ap (λ z. z ∷ before ++ (leaf ∷ rest)) h.0)
@@ -144,25 +144,25 @@ other_place x y h =
     (sym (nested (x.lnum == y.lnum) (x.offs == y.offs) (x.len == y.len)) ∙ h)
 
 -- what stands behind a greater key has a greater one
-further : (x y : Leaf) (before : List Leaf) (leaf : Leaf) (behind : List Leaf) → leaf_rank x < leaf_rank y → IsApartFrom y (before ++ (leaf ∷ behind)) → AreLeavesApart (before ++ (leaf ∷ behind)) → leaf_rank x < leaf_rank leaf
+further : (x y : Leaf) (before : List Leaf) (leaf : Leaf) (behind : List Leaf) → leaf_rank x < leaf_rank y → IsApartFrom y (before ++ (leaf ∷ behind)) → AreSpotsApart (before ++ (leaf ∷ behind)) → leaf_rank x < leaf_rank leaf
 further x y [] leaf behind l (inl a) g = through (leaf_rank x) (leaf_rank y) (leaf_rank leaf) l a
 further x y [] leaf behind l (inr a) g = subst (λ (n : ℕ). leaf_rank x < n) a.0 l
 further x y (z ∷ before) leaf behind l (inl a) g = further x z before leaf behind (through (leaf_rank x) (leaf_rank y) (leaf_rank z) l a) g.0 g.1
 further x y (z ∷ before) leaf behind l (inr a) g = further x z before leaf behind (subst (λ (n : ℕ). leaf_rank x < n) a.0 l) g.0 g.1
 
-apart_one : (x : Leaf) (before : List Leaf) (leaf : Leaf) (behind : List Leaf) → IsApartFrom x (before ++ (leaf ∷ behind)) → AreLeavesApart (before ++ (leaf ∷ behind)) → same_leaf x leaf ≡ false
+apart_one : (x : Leaf) (before : List Leaf) (leaf : Leaf) (behind : List Leaf) → IsApartFrom x (before ++ (leaf ∷ behind)) → AreSpotsApart (before ++ (leaf ∷ behind)) → same_leaf x leaf ≡ false
 apart_one x [] leaf behind (inl less) g = lesser_key x leaf less
 apart_one x [] leaf behind (inr a) g = other_place x leaf a.1
 apart_one x (y ∷ before) leaf behind (inl less) g = lesser_key x leaf (further x y before leaf behind less g.0 g.1)
 apart_one x (y ∷ before) leaf behind (inr a) g = apart_one x before leaf behind a.2 g.1
 
-once : (before : List Leaf) (leaf : Leaf) (behind : List Leaf) → AreLeavesApart (before ++ (leaf ∷ behind)) → holds leaf before ≡ false
+once : (before : List Leaf) (leaf : Leaf) (behind : List Leaf) → AreSpotsApart (before ++ (leaf ∷ behind)) → holds leaf before ≡ false
 once [] leaf behind g = refl
 once (x ∷ before) leaf behind g = ap (λ (t : Bool). cond t true (holds leaf before)) (apart_one x before leaf behind g.0 g.1) ∙ once before leaf behind g.1
 
-pub none_twice : (leaves : List Leaf) → AreLeavesApart leaves → IsFirstOf (IsTwiceIn leaves) None
-none_twice leaves apart at (leaf, before, behind, e, held, is) = false≢true (sym (once before leaf behind (subst AreLeavesApart e apart)) ∙ held)
+pub none_twice : (leaves : List Leaf) → AreSpotsApart leaves → IsFirstOf (IsTwiceIn leaves) None
+none_twice leaves apart at (leaf, before, behind, e, held, is) = false≢true (sym (once before leaf behind (subst AreSpotsApart e apart)) ∙ held)
 
-pub none_apart : (leaves : List Leaf) → length leaves ≡ 0 → AreLeavesApart leaves
+pub none_apart : (leaves : List Leaf) → length leaves ≡ 0 → AreSpotsApart leaves
 none_apart [] h = tt
 none_apart (x ∷ leaves) h = absurd (omega (arith, h))

@@ -12,7 +12,7 @@ use Rattle.journal_scan.specs.declared.journal_node.JournalNode.{JournalNode}
 use Rattle.log_replay.specs.Replay.{told_committed}
 use Rattle.log_replay.specs.Things.{is_at_leaf}
 use Rattle.log_replay.specs.declared.committed_leaf.CommittedLeaf.{CommittedLeaf}
-use Rattle.sound_image.specs.Image.{named_by}
+use Rattle.sound_image.specs.Image.{named_by_ref_node}
 use Rattle.sound_image.specs.Leaves.{IsPlacedIn}
 use Rattle.sound_image.specs.Tree.{IsCopy}
 
@@ -26,7 +26,7 @@ FoundStands contents c = by c.found
 
 -- These are the committed leaves of which this is told, by these references of the log; what was found at their places stands there.
 pub record AreCommittedTold (contents : ℕ → List ℕ) (named : List Named) (leaves : List Committed) (references : List RefNode) (committed : List CommittedLeaf) : Type 0 where
-  pub log : named ≡ map named_by references
+  pub log : named ≡ map named_by_ref_node references
   pub told_leaves : committed ≡ map told_committed leaves
   pub stand : AllByRecursion (FoundStands contents) leaves
 
@@ -47,7 +47,7 @@ has_own_told references x = by x.found
   where
     by : Option JournalNode → Bool
     by None = false
-    by (Some node) = is_at_leaf x.leaf node && not (in_bud (map named_by references) x.leaf)
+    by (Some node) = is_at_leaf x.leaf node && not (in_bud (map named_by_ref_node references) x.leaf)
 
 -- whether a committed leaf has a key of this rank, and no own node
 abbrev pub is_lost_at : List RefNode → ℕ → CommittedLeaf → Bool

@@ -3,7 +3,7 @@ use Rattle.std.specs.Prelude.{◌≡◌, ⊤, ℕ, ◌+◌, ◌<◌, ◌≤◌, 
 use Rattle.leaf_map.specs.Kept.{Kept, Placed}
 use Rattle.leaf_map.specs.Recovered.{stand_in}
 use Rattle.media_leaf.specs.LeafNode.{IsLeafNode, LeafNode, block}
-use Rattle.sound_image.specs.Breaches.{IsAtNode, number_of}
+use Rattle.sound_image.specs.Breaches.{IsAtNode, inode_number_of}
 use Rattle.sound_image.specs.Leaves.{IsPlacedIn}
 use Rattle.sound_image.specs.Tree.{ShowsItsNode}
 use Rattle.sound_image.specs.Wrong.{IsOneOf, Wrong, differs}
@@ -20,7 +20,7 @@ pub record IsReadFrom (source : Source) (node : Placed) : Type 0 where
   pub len : node.len ≡ source.len
 
 -- a place lies in the volume, and is no longer than any leaf node
-pub record IsPlaceIn (state : VolumeState) (source : Source) : Type 0 where
+pub record IsSourceIn (state : VolumeState) (source : Source) : Type 0 where
   pub lnum : source.lnum < state.leb_cnt
   pub range : source.offs + source.len ≤ state.leb_size
   pub room : source.offs + source.len ≤ length (state.holds source.lnum)
@@ -59,7 +59,7 @@ StandsAtLeaf contents leaf node = (sqnum : ℕ) × (group : ℕ) × IsLeafNode (
 
 -- a leaf doesn't show what stands at its place; the number by which it is named is wanted
 abbrev pub IsUnlike : (ℕ → List ℕ) → Kept → Wrong → Type 0
-IsUnlike contents x at = (ShowsItsNode contents x → ⊥) × IsAtNode x (differs (number_of x) 0) at
+IsUnlike contents x at = (ShowsItsNode contents x → ⊥) × IsAtNode x (differs (inode_number_of x) 0) at
 
 -- one of these leaves doesn't
 abbrev pub IsUnlikeIn : (ℕ → List ℕ) → List Kept → Wrong → Type 0

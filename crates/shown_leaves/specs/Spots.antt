@@ -41,9 +41,9 @@ IsApartFrom leaf (other ∷ leaves) =
     ⊎ ((leaf_rank leaf ≡ leaf_rank other) × IsFalse (is_at_one_place leaf other) × IsApartFrom leaf leaves)
 
 -- that holds of each leaf and those behind it
-abbrev pub AreLeavesApart : List Leaf → Type 0
-AreLeavesApart [] = ⊤
-AreLeavesApart (leaf ∷ leaves) = IsApartFrom leaf leaves × AreLeavesApart leaves
+abbrev pub AreSpotsApart : List Leaf → Type 0
+AreSpotsApart [] = ⊤
+AreSpotsApart (leaf ∷ leaves) = IsApartFrom leaf leaves × AreSpotsApart leaves
 
 -- one of these leaves has the key and the place of one before it
 abbrev pub IsTwiceIn : List Leaf → Wrong → Type 0

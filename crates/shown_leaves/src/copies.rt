@@ -7,12 +7,12 @@ ghost use Rattle.index_tree.specs.Removal.{same_leaf};
 ghost use Rattle.leaf_map.specs.Kept.{Placed};
 ghost use Rattle.leaf_map.specs.Parts.{Committed, Named, Parts, in_bud};
 ghost use Rattle.log_replay.specs.Changes.{place_of_node};
-ghost use Rattle.log_replay.specs.Standing.{leaf_at};
+ghost use Rattle.log_replay.specs.Standing.{leaf_of_key};
 ghost use Rattle.ubifs_base.specs.declared.key.Key.{Key as AKey};
 ghost use Rattle.journal_scan.specs.Content.{told};
 ghost use Rattle.log_replay.specs.Replay.{told_committed};
 ghost use Rattle.log_replay.specs.Things.{is_at_leaf, key_told};
-ghost use Rattle.sound_image.specs.Image.{named_by};
+ghost use Rattle.sound_image.specs.Image.{named_by_ref_node};
 ghost use Rattle.sound_image.specs.Leaves.{IsPlacedIn};
 ghost use Rattle.sound_image.specs.Tree.{IsCopy};
 ghost use Rattle.ubi_volume.specs.Volume.{Keeps, SameShape};
@@ -145,7 +145,7 @@ fn is_own_node<V: Volume>(
     sought: u128,
     node: &StoredNode,
 ) -> Result<bool, AreaFault>
-    ensures own { IfOk result (λ is. (c : Committed) → leaf.now ≡ told_committed c → FoundStands (V.state volume.old).holds c → IsTrue is ↔ IsOwnAt (map named_by references.now) sought c (leaf_node node.now)) }
+    ensures own { IfOk result (λ is. (c : Committed) → leaf.now ≡ told_committed c → FoundStands (V.state volume.old).holds c → IsTrue is ↔ IsOwnAt (map named_by_ref_node references.now) sought c (leaf_node node.now)) }
     ensures keeps { Keeps (V.state volume.old) (V.state volume.new) }
     ensures shape { SameShape (V.state volume.old) (V.state volume.new) }
     ensures cause { HasAreaCause (V.state volume.old).faults (V.state volume.new).faults result }
@@ -177,7 +177,7 @@ fn has_own(references: &[RefNode], leaf: &CommittedLeaf) -> bool
 
 // Whether the log names a leaf's place.
 fn is_in_bud(references: &[RefNode], leaf: &Leaf) -> bool
-    ensures { result ≡ in_bud (map named_by references.now) leaf.now }
+    ensures { result ≡ in_bud (map named_by_ref_node references.now) leaf.now }
 {
     for reference in references {
         if reference.lnum == leaf.lnum && reference.offs <= leaf.offs {
@@ -200,7 +200,7 @@ fn makes(node: &JournalNode, leaf: &Leaf) -> bool
 // Whether a leaf has a key of this rank and the place of a node.
 #[tactic(auto, unfolding(index_tree::specs::Removal::same_leaf))]
 fn is_one(leaf: &Leaf, sought: u128, node: &JournalNode) -> bool
-    ensures { (key : AKey) → sought ≡ key_rank key → result ≡ same_leaf leaf.now (leaf_at key (place_of_node node.now)) }
+    ensures { (key : AKey) → sought ≡ key_rank key → result ≡ same_leaf leaf.now (leaf_of_key key (place_of_node node.now)) }
 {
     rank(&leaf.key) == sought
         && leaf.lnum == node.lnum

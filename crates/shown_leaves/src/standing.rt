@@ -11,7 +11,7 @@ ghost use Rattle.sound_image.specs.Leaves.{IsPlacedIn};
 ghost use Rattle.tree_check.specs.Told.{shown_told};
 ghost use Rattle.ubi_volume.specs.Volume.{Keeps, SameShape};
 ghost use Rattle.ubi_volume.specs.Faults.{HasAreaCause, StaysSureArea};
-ghost use Rattle.shown_leaves.specs.Sources.{IsPlaceIn, IsReadFrom};
+ghost use Rattle.shown_leaves.specs.Sources.{IsSourceIn, IsReadFrom};
 
 use crate::shown::{block_shown, entry_shown, inode_shown, truncation_shown};
 use crate::sourced_leaf::Source;
@@ -70,7 +70,7 @@ pub(crate) fn read_standing<V: Volume>(
 
 // Whether a place lies in the volume, and is no longer than any leaf node.
 fn has_place<V: Volume>(volume: &V, source: Source) -> bool
-    ensures yes { IsTrue result → IsPlaceIn (V.state volume.now) source }
+    ensures yes { IsTrue result → IsSourceIn (V.state volume.now) source }
     ensures no { IsFalse result → (node : Placed) → IsReadFrom source node → IsPlacedIn (V.state volume.now).holds node → ⊥ }
 {
     let size = volume.leb_size();

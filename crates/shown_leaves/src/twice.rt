@@ -4,7 +4,7 @@ ghost use Rattle.std.specs.Prelude.{◌≡◌, not, map, IfOk, IsTrue, OnOk, ◌
 ghost use Rattle.leaf_map.specs.Parts.{Parts};
 ghost use Rattle.sound_image.specs.Breaches.{IsCommittedTwice};
 ghost use Rattle.image_check.specs.WrongValues.{IsFirstOf};
-ghost use Rattle.shown_leaves.specs.Spots.{AreLeavesApart, IsApartFrom, IsTwiceIn, Spot, has_spot, is_at_one_place, is_same_spot, spot_of, wrong_leaf};
+ghost use Rattle.shown_leaves.specs.Spots.{AreSpotsApart, IsApartFrom, IsTwiceIn, Spot, has_spot, is_at_one_place, is_same_spot, spot_of, wrong_leaf};
 
 use crate::key_order::{number_of, rank};
 use image_check::{WrongValue, sooner};
@@ -49,7 +49,7 @@ const MOST_EQUAL: u32 = 16;
 // Whether no leaf has the key and the place of one before it, as the order of keys tells it: these go up from one leaf to the next, as
 // in an index, or stay where places differ. True is never told of more than 16 leaves of one key behind one.
 fn are_apart(leaves: &[Leaf]) -> bool
-    ensures { IsTrue result → AreLeavesApart leaves.now }
+    ensures { IsTrue result → AreSpotsApart leaves.now }
 {
     let mut left = leaves;
     'going: while let Some((leaf, rest)) = left.split_first() {

@@ -4,7 +4,7 @@ ghost use Rattle.std.specs.Prelude.{◌≡◌, List, None, fold, map};
 ghost use Rattle.std.specs.List.{AllByRecursion};
 ghost use Rattle.media_leaf.specs.LeafNode.{IsLeaf};
 ghost use Rattle.leaf_map.specs.Kept.{Placed};
-ghost use Rattle.leaf_map.specs.Recovered.{in_order};
+ghost use Rattle.leaf_map.specs.Recovered.{nodes_in_order};
 ghost use Rattle.journal_scan.specs.Content.{number_told, told};
 ghost use Rattle.image_check.specs.WrongValues.{IsFirstOf, sooner_of};
 ghost use Rattle.shown_leaves.specs.FalseNodes.{IsUnchanging};
@@ -18,7 +18,7 @@ use journal_scan::{JournalNode, NodeContent};
 /// (`struct ubifs_ino_node` of ubifs-media.h). The nodes are those to be applied, in order of number. The inode number of the node's
 /// key is wanted. Reads nothing and takes no memory.
 pub fn first_unchanging(nodes: &[JournalNode]) -> Option<WrongValue>
-    ensures first { (placed : List Placed) → AllByRecursion (λ x. IsLeaf x.node) placed → nodes.now ≡ map told (in_order placed) → IsFirstOf (IsUnchanging placed) result }
+    ensures first { (placed : List Placed) → AllByRecursion (λ x. IsLeaf x.node) placed → nodes.now ≡ map told (nodes_in_order placed) → IsFirstOf (IsUnchanging placed) result }
 {
     first_told(nodes)
 }

@@ -18,7 +18,7 @@ use Rattle.sound_image.specs.Log.{HasLog}
 use Rattle.sound_image.specs.LogBreaches.{IsBrokenLog}
 use Rattle.sound_image.specs.Properties.{HasProperties}
 use Rattle.sound_image.specs.PropertyBreaches.{IsWrongProperty}
-use Rattle.sound_image.specs.Rules.{Meets, MeetsBefore, rule_number}
+use Rattle.sound_image.specs.Rules.{MeetsRule, MeetsBefore, rule_number}
 use Rattle.sound_image.specs.Wrong.{IsFirstWrong}
 use Rattle.sound_image.specs.declared.rule.Rule.{Rule}
 use Rattle.sound_image.specs.declared.rule.Rule.TheVariants as rules
@@ -27,9 +27,9 @@ use Rattle.image_check.specs.declared.fault.CheckFault.{CheckFault}
 use Rattle.bud_check.specs.Found.{AreFoundBuds}
 use Rattle.bud_check.specs.declared.buds_found.BudsFound.{BudsFound}
 use Rattle.journal_check.specs.declared.log_found.LogFound.{LogFound}
-use Rattle.image_tree.specs.Reads.{IsJournalOf, IsReadOfSome, IsReadSoFar, ReadBefore, with_leaves}
+use Rattle.image_tree.specs.Reads.{IsJournalOfImage, IsReadOfSome, IsImageReadSoFar, ReadBefore, with_leaves}
 use Rattle.image_tree.specs.declared.tree_read.TreeRead.{TreeRead}
-use Rattle.sound_check.specs.Stages.{HasAreas, HasBeginning, IsImageUpTo, HasRecovered}
+use Rattle.sound_check.specs.Stages.{HasAreas, HasSoundBeginning, IsImageUpTo, HasRecovered}
 use Rattle.sound_check.specs.declared.areas.Areas.{Areas}
 use Rattle.sound_check.specs.declared.begun.Begun.{Begun}
 use Rattle.sound_check.specs.declared.journal.FoundJournal.{FoundJournal}
@@ -49,7 +49,7 @@ image_of begun props placed log buds = record {
   listed = [];
 }
 
-module _ (contents : ℕ → List ℕ) (begun : Begun) (h : HasBeginning contents begun) where
+module _ (contents : ℕ → List ℕ) (begun : Begun) (h : HasSoundBeginning contents begun) where
   begun_meets : (props : List Lprop) (placed : PlacedRow) (log : List LogText) (buds : List BudRead) → MeetsBefore contents (image_of begun props placed log buds) rules.Properties
   begun_meets props placed log buds =
       let image = image_of begun props placed log buds in
@@ -108,7 +108,7 @@ module _ (contents : ℕ → List ℕ) (areas : Areas) (placed : PlacedRow) (h :
 
 -- ---- leaves
 -- what of an image is known whatever its leaves are
-keep_leaves : (contents : ℕ → List ℕ) (image : Image) (committed : List Committed) (listed : List ℕ) → MeetsBefore contents image rules.Leaves → (other : Rule) → rule_number other < rule_number rules.Leaves → Meets contents (with_leaves image committed listed) other
+keep_leaves : (contents : ℕ → List ℕ) (image : Image) (committed : List Committed) (listed : List ℕ) → MeetsBefore contents image rules.Leaves → (other : Rule) → rule_number other < rule_number rules.Leaves → MeetsRule contents (with_leaves image committed listed) other
 keep_leaves contents image committed listed before rules.Superblock less = before rules.Superblock less
 keep_leaves contents image committed listed before rules.Masters less = before rules.Masters less
 keep_leaves contents image committed listed before rules.Properties less = before rules.Properties less
@@ -120,10 +120,10 @@ keep_leaves contents image committed listed before other less = absurd (omega (a
 module _ (contents : ℕ → List ℕ) (journal : FoundJournal) (image : Image) (h : IsImageUpTo rules.Leaves contents journal image) where
   -- what the check of leaves asks
   pub so_far : (props : List Lprop) (leaves : List Leaf) (references : List RefNode) → props ≡ journal.areas.props.items → leaves ≡ journal.areas.index.leaves.items → references ≡ journal.log.references.items
-      → IsReadSoFar contents (record { geo = raw_of journal.areas.begun.geometry; props = props; leaves = leaves; references = references; journal = journal.buds.read }) image
+      → IsImageReadSoFar contents (record { geo = raw_of journal.areas.begun.geometry; props = props; leaves = leaves; references = references; journal = journal.buds.read }) image
   so_far props leaves references of_props of_leaves of_references =
-      let P : List RefNode → Type 0 = λ refs. IsJournalOf contents journal.areas.index.leaves.items refs journal.buds.read image in
-      let Q : List Leaf → Type 0 = λ ls. IsJournalOf contents ls references journal.buds.read image in
+      let P : List RefNode → Type 0 = λ refs. IsJournalOfImage contents journal.areas.index.leaves.items refs journal.buds.read image in
+      let Q : List Leaf → Type 0 = λ ls. IsJournalOfImage contents ls references journal.buds.read image in
       record { geo = h.geo; props = h.props ∙ sym of_props; said = subst Q (sym of_leaves) (subst P (sym of_references) h.said) }
 
   pub first_of_leaves : FirstLaw → (fault : CheckFault) → TellsBreach (IsBreachOf rules.Leaves (IsBrokenLeaf contents image)) fault → TellsBreach (IsFirstBreach contents) fault

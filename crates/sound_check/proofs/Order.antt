@@ -2,7 +2,7 @@
 use Rattle.std.proofs.Common.{◌≡◌, ◌≤◌, ℕ, suc, List, inl, inr, refl, subst, arith}
 use Rattle.std.proofs.lemmas.Bool.{cases_lt}
 use Rattle.sound_image.specs.Image.{Image}
-use Rattle.sound_image.specs.Rules.{Meets, MeetsBefore, rule_number}
+use Rattle.sound_image.specs.Rules.{MeetsRule, MeetsBefore, rule_number}
 use Rattle.sound_image.specs.declared.rule.Rule.{Rule}
 use Rattle.sound_image.specs.declared.rule.Rule.TheVariants as rules
 
@@ -23,10 +23,10 @@ one_rule rules.Links rules.Links e = refl
 one_rule a b e = absurd (omega (arith, e))
 
 -- a rule that is met is before the next one, as those before it
-pub meets_next : (contents : ℕ → List ℕ) (image : Image) (rule next : Rule) → rule_number next ≡ suc (rule_number rule) → MeetsBefore contents image rule → Meets contents image rule → MeetsBefore contents image next
+pub meets_next : (contents : ℕ → List ℕ) (image : Image) (rule next : Rule) → rule_number next ≡ suc (rule_number rule) → MeetsBefore contents image rule → MeetsRule contents image rule → MeetsBefore contents image next
 meets_next contents image rule next behind before here = λ other less. elim (cases_lt (rule_number other) (rule_number rule)) [
   | inl lower ↦ before other lower
-  | inr higher ↦ subst (Meets contents image) (one_rule rule other (omega (arith, less, higher, behind))) here
+  | inr higher ↦ subst (MeetsRule contents image) (one_rule rule other (omega (arith, less, higher, behind))) here
 ]
 
 -- none is before the first

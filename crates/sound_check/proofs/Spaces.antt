@@ -15,7 +15,7 @@ use Rattle.leaf_map.specs.Recovered.{tree_found}
 use Rattle.sound_image.specs.Breaches.{IsFirstBreach, IsNoOrphan, IsWrittenEnd, IsWrongInTree, IsWrongLink, IsWrongSum}
 use Rattle.sound_image.specs.Image.{Image, parts_of}
 use Rattle.sound_image.specs.OrphanLists.{HasOrphanLists}
-use Rattle.sound_image.specs.Rules.{Meets, MeetsBefore, rule_number}
+use Rattle.sound_image.specs.Rules.{MeetsRule, MeetsBefore, rule_number}
 use Rattle.sound_image.specs.Sound.{SoundImage}
 use Rattle.sound_image.specs.Space.{HasErasedEnds, HasSums}
 use Rattle.sound_image.specs.Tree.{HasLinks}
@@ -26,7 +26,7 @@ use Rattle.image_check.specs.Told.{IsBreachOf, TellsBreach}
 use Rattle.image_check.specs.declared.fault.CheckFault.{CheckFault}
 use Rattle.index_check.specs.FoundIndex.{IsFoundIndex}
 use Rattle.index_check.specs.declared.index_found.IndexFound.{IndexFound}
-use Rattle.image_tree.specs.Reads.{IsJournalOf}
+use Rattle.image_tree.specs.Reads.{IsJournalOfImage}
 use Rattle.space_check.specs.Sums.{ListsIndex}
 use Rattle.sound_check.specs.Stages.{IsImageUpTo}
 use Rattle.sound_check.specs.declared.journal.FoundJournal.{FoundJournal}
@@ -35,7 +35,7 @@ use Rattle.sound_check.proofs.Order.{meets_next}
 use Rattle.sound_check.proofs.Stages.{up_to_same}
 
 -- one rule more
-pub advance : (contents : ℕ → List ℕ) (journal : FoundJournal) (image : Image) (rule next : Rule) → rule_number next ≡ suc (rule_number rule) → IsImageUpTo rule contents journal image → Meets contents image rule → IsImageUpTo next contents journal image
+pub advance : (contents : ℕ → List ℕ) (journal : FoundJournal) (image : Image) (rule next : Rule) → rule_number next ≡ suc (rule_number rule) → IsImageUpTo rule contents journal image → MeetsRule contents image rule → IsImageUpTo next contents journal image
 advance contents journal image rule next behind h here = record {
   rules = meets_next contents image rule next behind h.rules here;
   geo = h.geo;
@@ -109,10 +109,10 @@ module _ (contents : ℕ → List ℕ) (journal : FoundJournal) (image : Image) 
 
   -- ---- the tree and links
   pub journal_of : {rule : Rule} (leaves : List Leaf) (references : List RefNode) → leaves ≡ journal.areas.index.leaves.items → references ≡ journal.log.references.items → IsImageUpTo rule contents journal image
-      → IsJournalOf contents leaves references journal.buds.read image
+      → IsJournalOfImage contents leaves references journal.buds.read image
   journal_of leaves references of_leaves of_references h =
-      let P : List RefNode → Type 0 = λ refs. IsJournalOf contents journal.areas.index.leaves.items refs journal.buds.read image in
-      let Q : List Leaf → Type 0 = λ ls. IsJournalOf contents ls references journal.buds.read image in
+      let P : List RefNode → Type 0 = λ refs. IsJournalOfImage contents journal.areas.index.leaves.items refs journal.buds.read image in
+      let Q : List Leaf → Type 0 = λ ls. IsJournalOfImage contents ls references journal.buds.read image in
       subst Q (sym of_leaves) (subst P (sym of_references) h.said)
 
   pub first_of_tree : FirstLaw → IsImageUpTo rules.Tree contents journal image → (fault : CheckFault) → TellsBreach (IsBreachOf rules.Tree (IsFirstWrong (IsWrongInTree contents journal.areas.begun.latest.master (parts_of image)))) fault → TellsBreach (IsFirstBreach contents) fault
@@ -120,10 +120,10 @@ module _ (contents : ℕ → List ℕ) (journal : FoundJournal) (image : Image) 
       first_told law contents image rules.Tree h.rules fault
       (of_image contents journal image journal.areas.props.items refl h (λ g latest ps. TellsBreach (IsBreachOf rules.Tree (IsFirstWrong (IsWrongInTree contents latest.master (parts_of image)))) fault) told)
 
-  pub first_of_links : FirstLaw → IsImageUpTo rules.Tree contents journal image → Meets contents image rules.Tree → (fault : CheckFault) → TellsBreach (IsBreachOf rules.Links (IsFirstWrong (IsWrongLink (parts_of image)))) fault → TellsBreach (IsFirstBreach contents) fault
+  pub first_of_links : FirstLaw → IsImageUpTo rules.Tree contents journal image → MeetsRule contents image rules.Tree → (fault : CheckFault) → TellsBreach (IsBreachOf rules.Links (IsFirstWrong (IsWrongLink (parts_of image)))) fault → TellsBreach (IsFirstBreach contents) fault
   first_of_links law h tree fault told = first_told law contents image rules.Links (meets_next contents image rules.Tree rules.Links refl h.rules tree) fault told
 
-  pub sound_of : IsImageUpTo rules.Tree contents journal image → Meets contents image rules.Tree → HasLinks (tree_found (parts_of image)) → SoundImage contents image
+  pub sound_of : IsImageUpTo rules.Tree contents journal image → MeetsRule contents image rules.Tree → HasLinks (tree_found (parts_of image)) → SoundImage contents image
   sound_of h tree links =
       let before : MeetsBefore contents image rules.Tree = h.rules in
       record {

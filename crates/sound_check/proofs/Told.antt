@@ -10,15 +10,15 @@ use Rattle.bud_log.specs.Log.{references_of}
 use Rattle.index_tree.specs.declared.leaf.Leaf.{Leaf}
 use Rattle.index_media.specs.Stored.{IsStoredIndex}
 use Rattle.journal_scan.specs.Content.{told}
-use Rattle.journal_scan.specs.Journal.{BudRead, copies_in, nodes_in}
+use Rattle.journal_scan.specs.Journal.{BudRead, copies_in, journal_nodes_in}
 use Rattle.journal_scan.specs.declared.journal_node.JournalNode.{JournalNode}
 use Rattle.leaf_map.specs.Kept.{Kept, Placed}
 use Rattle.leaf_map.specs.Parts.{Parts}
-use Rattle.leaf_map.specs.Recovered.{in_order, placed_node, recovered_of}
+use Rattle.leaf_map.specs.Recovered.{nodes_in_order, placed_node, recovered_of}
 use Rattle.leaf_map.specs.SpaceFound.{space_found}
 use Rattle.leaf_recovery.specs.Told.{AreLeavesTold}
 use Rattle.leaf_recovery.specs.declared.recovered_leaf.RecoveredLeaf.{RecoveredLeaf}
-use Rattle.sound_image.specs.Image.{Image, named_by, parts_of}
+use Rattle.sound_image.specs.Image.{Image, named_by_ref_node, parts_of}
 use Rattle.sound_image.specs.Index.{root_branch}
 use Rattle.sound_image.specs.Sound.{SoundImage}
 use Rattle.sound_image.specs.Summary.{is_clean, main_area_of, space_of_image}
@@ -44,10 +44,10 @@ told_length : (xs : List Placed) → length (map told xs) ≡ length xs
 told_length [] = refl
 told_length (x ∷ xs) = let a = told_length xs in omega (arith, a)
 
-nodes_counted : (nodes : List Placed) (applied : List JournalNode) → applied ≡ map told (in_order nodes) → length applied ≡ length nodes
+nodes_counted : (nodes : List Placed) (applied : List JournalNode) → applied ≡ map told (nodes_in_order nodes) → length applied ≡ length nodes
 nodes_counted nodes applied e =
     let a = ap length e in
-    let b = told_length (in_order nodes) in
+    let b = told_length (nodes_in_order nodes) in
     let d = order_length [] nodes in
     omega (arith, a, b, d)
 
@@ -64,7 +64,7 @@ pub told_space : (contents : ℕ → List ℕ) (read : ImageRead) (image : Image
     → applied ≡ length read.buds.read.nodes.items → IsToldOf (raw_of read.geometry) nodes references leaves applied image
 told_space contents read image sound h nodes references leaves applied of_nodes of_references of_leaves of_applied =
     let P : RawGeometry → Type 0 = λ geo. IsStoredIndex contents geo.fanout (root_branch image.latest.master sound.index.key) image.placed in
-    let Q : List BudRead → Type 0 = λ reads. length read.buds.read.nodes.items ≡ length (nodes_in reads) in
+    let Q : List BudRead → Type 0 = λ reads. length read.buds.read.nodes.items ≡ length (journal_nodes_in reads) in
     record {
       geometry = h.geo;
       contents = contents;
@@ -73,7 +73,7 @@ told_space contents read image sound h nodes references leaves applied of_nodes 
       nodes_are = of_nodes ∙ h.index.nodes;
       references_are = of_references ∙ h.said.references_are;
       leaves_are = of_leaves ∙ places_same (parts_of image) (recovered_of (parts_of image)).kept read.tree.recovered.kept.items h.tree.recovered.kept;
-      applied_is = of_applied ∙ subst Q h.said.buds (nodes_counted (nodes_in h.said.read.reads) read.buds.read.nodes.items h.said.read.nodes);
+      applied_is = of_applied ∙ subst Q h.said.buds (nodes_counted (journal_nodes_in h.said.read.reads) read.buds.read.nodes.items h.said.read.nodes);
     }
 
 -- what is told, part by part
@@ -85,8 +85,8 @@ same_parts : (image : Image) (latest : PlacedMaster) → latest.master ≡ image
 same_parts image latest e = λ i. record {
   highest = (e i).highest_inum;
   committed = image.committed;
-  named = map named_by (references_of image.log);
-  nodes = nodes_in image.buds;
+  named = map named_by_ref_node (references_of image.log);
+  nodes = journal_nodes_in image.buds;
   copies = copies_in image.buds;
   listed = image.listed;
 }

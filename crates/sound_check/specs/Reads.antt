@@ -6,7 +6,7 @@ use Rattle.sound_image.specs.Image.{Image, parts_of}
 use Rattle.sound_image.specs.Summary.{is_clean, space_of_image}
 use Rattle.index_check.specs.FoundIndex.{IsFoundIndex}
 use Rattle.tree_check.specs.Told.{AreShownBy}
-use Rattle.image_tree.specs.Reads.{IsJournalOf, IsReadOf}
+use Rattle.image_tree.specs.Reads.{IsJournalOfImage, IsTreeReadOf}
 use Rattle.sound_check.specs.declared.image_read.ImageRead.{ImageRead}
 use Rattle.sound_check.specs.declared.sound.Sound.{Sound}
 
@@ -20,7 +20,7 @@ pub record IsReadImage (contents : ℕ → List ℕ) (read : ImageRead) (image :
   pub latest : image.latest ≡ read.latest
   pub props : image.props ≡ read.props.items
   pub index : IsFoundIndex image.placed read.index
-  pub said : IsJournalOf contents read.index.leaves.items read.log.references.items read.buds.read image
+  pub said : IsJournalOfImage contents read.index.leaves.items read.log.references.items read.buds.read image
   pub clean : read.buds.clean ≡ is_clean image
-  pub tree : IsReadOf contents image read.tree
+  pub tree : IsTreeReadOf contents image read.tree
   pub shown : AreShownBy (recovered_of (parts_of image)).kept read.shown.items

@@ -7,7 +7,7 @@ ghost use Rattle.sound_image.specs.Breaches.{IsFirstBreach};
 ghost use Rattle.image_check.specs.Told.{TellsBreach};
 ghost use Rattle.sound_check.specs.Calls.{ReadsOnly};
 ghost use Rattle.sound_check.specs.Shape.{HasShapeOfImage};
-ghost use Rattle.sound_check.specs.Stages.{HasBeginning};
+ghost use Rattle.sound_check.specs.Stages.{HasSoundBeginning};
 
 use image_check::{CheckFault, check_masters, check_superblock};
 use small_areas::PlacedMaster;
@@ -24,7 +24,7 @@ pub(crate) struct Begun {
 
 pub(crate) fn begin<V: Volume>(alloc: Global, volume: &mut V) -> Result<Begun, CheckFault>
     requires shape { HasShapeOfImage (V.state volume.old) }
-    ensures met { IfOk result (HasBeginning (V.state volume.old).holds) }
+    ensures met { IfOk result (HasSoundBeginning (V.state volume.old).holds) }
     ensures geometry { IfOk result (λ begun. IsGeometryOf (raw_of begun.geometry) (V.state volume.new)) }
     ensures broken { IfErr result (TellsBreach (IsFirstBreach (V.state volume.old).holds)) }
     ensures reads { ReadsOnly (V.state volume.old) (V.state volume.new) result }

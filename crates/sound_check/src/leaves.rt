@@ -7,7 +7,7 @@ ghost use Rattle.sound_image.specs.Breaches.{IsFirstBreach};
 ghost use Rattle.sound_image.specs.Image.{Image};
 ghost use Rattle.sound_image.specs.declared.rule.Rule.TheVariants as rules;
 ghost use Rattle.image_check.specs.Told.{TellsBreach};
-ghost use Rattle.image_tree.specs.Reads.{IsReadOf};
+ghost use Rattle.image_tree.specs.Reads.{IsTreeReadOf};
 ghost use Rattle.sound_check.specs.Calls.{ReadsOnly};
 ghost use Rattle.sound_check.specs.Shape.{HasShapeOfImage};
 ghost use Rattle.sound_check.specs.Stages.{HasRecovered, IsImageUpTo};

@@ -12,7 +12,7 @@ use Rattle.media_sys.specs.declared.ref_node.RefNode.{RefNode}
 use Rattle.leb_scan.specs.declared.found.Found.{Found}
 use Rattle.leb_scan.specs.declared.tail.Tail.TheVariants.{Clean}
 use Rattle.bud_log.specs.Log.{Run, next_leb, references_of}
-use Rattle.bud_log.specs.LogText.{BeginsCommit, IsReferenceAt, IsTextOf, LogText, Refer, begins_with, is_later, start_of}
+use Rattle.bud_log.specs.LogText.{BeginsCommit, IsReferenceAt, IsLogTextOf, LogText, Refer, begins_with, is_later, start_of}
 use Rattle.bud_log.specs.References.{one_commit}
 use Rattle.small_areas.specs.MasterLaws.{OneNode, OneText}
 use Rattle.bud_log.specs.OneTextLaws.{one_log_text, one_reference}
@@ -42,15 +42,15 @@ start_broken one unique contents geo master texts at fits h wrong =
 
 -- ---- references
 -- where texts are read, each is that of its LEB
-each_of_run : (contents : ℕ → List ℕ) (geo : RawGeometry) (from number lnum past : ℕ) (before behind : List LogText) (text : LogText) → Run contents geo from number lnum (before ++ (text ∷ behind)) past → IsTextOf (contents text.ends.lnum) text.ends.lnum text
-each_of_run contents geo from number lnum past [] behind text h = let P : ℕ → Type 0 = λ n. IsTextOf (contents n) n text in subst P (sym h.1.here) h.1
+each_of_run : (contents : ℕ → List ℕ) (geo : RawGeometry) (from number lnum past : ℕ) (before behind : List LogText) (text : LogText) → Run contents geo from number lnum (before ++ (text ∷ behind)) past → IsLogTextOf (contents text.ends.lnum) text.ends.lnum text
+each_of_run contents geo from number lnum past [] behind text h = let P : ℕ → Type 0 = λ n. IsLogTextOf (contents n) n text in subst P (sym h.1.here) h.1
 each_of_run contents geo from number lnum past (b ∷ before) behind text h = each_of_run contents geo from number (next_leb geo lnum) past before behind text h.3
 
-each_text : (contents : ℕ → List ℕ) (geo : RawGeometry) (from start : ℕ) (texts before behind : List LogText) (text : LogText) → IsReadOfLog contents geo from start texts → texts ≡ before ++ (text ∷ behind) → IsTextOf (contents text.ends.lnum) text.ends.lnum text
+each_text : (contents : ℕ → List ℕ) (geo : RawGeometry) (from start : ℕ) (texts before behind : List LogText) (text : LogText) → IsReadOfLog contents geo from start texts → texts ≡ before ++ (text ∷ behind) → IsLogTextOf (contents text.ends.lnum) text.ends.lnum text
 each_text contents geo from start texts [] behind text h e =
     let same = (cons_parts h.first text h.more behind (sym h.whole ∙ e)).0 in
-    let P : ℕ → Type 0 = λ n. IsTextOf (contents n) n text in
-    let Q : LogText → Type 0 = λ t. IsTextOf (contents from) from t in
+    let P : ℕ → Type 0 = λ n. IsLogTextOf (contents n) n text in
+    let Q : LogText → Type 0 = λ t. IsLogTextOf (contents from) from t in
     let is = subst Q same h.chain.is_first in
     subst P (sym is.here) is
 each_text contents geo from start texts (b ∷ before) behind text h e =

@@ -21,14 +21,14 @@ use Rattle.leaf_map.specs.LeafMap.{are_apart, shows_same}
 use Rattle.leaf_map.specs.Lost.{empty_names}
 use Rattle.leaf_map.specs.Parts.{Parts}
 use Rattle.leaf_map.specs.Recovered.{recovered_of, tree_found}
-use Rattle.leaf_map.specs.Shown.{inodes_of, with_inode}
+use Rattle.leaf_map.specs.Shown.{inodes_of, with_shown_inode}
 use Rattle.sound_image.specs.Breaches.{IsCommittedTwice, IsWrongInTree, IsWrongLink, IsWrongNode, IsWrongThere, is_misfit}
 use Rattle.sound_image.specs.Tree.{HasLinks, HasTree, IsCopy, ShowsItsNode, has_its_links, is_in_place, is_named_well}
 use Rattle.sound_image.specs.Wrong.{IsOneOf, Wrong}
 use Rattle.sound_image.proofs.Lists.{all_at, each_at, none_of, one_more, test_at, two_true}
 
 -- an inode that a leaf shows is one of the tree's
-in_front : (shown : Option Change) (e : ℕ × Inode) (inodes : Inodes) → IsOneOf e inodes → IsOneOf e (with_inode shown inodes)
+in_front : (shown : Option Change) (e : ℕ × Inode) (inodes : Inodes) → IsOneOf e inodes → IsOneOf e (with_shown_inode shown inodes)
 in_front None e inodes h = h
 in_front (Some (SetInode ino inode)) e inodes h = one_more e (ino, inode) inodes h
 in_front (Some (SetBlock ino number bytes)) e inodes h = h
@@ -38,7 +38,7 @@ in_front (Some (CutBlocks ino old_size new_size)) e inodes h = h
 in_front (Some (DropInode ino)) e inodes h = h
 
 shown_inode : (before behind : List Kept) (x : Kept) (ino : ℕ) (inode : Inode) → shown_by x ≡ Some (SetInode ino inode) → IsOneOf (ino, inode) (inodes_of (before ++ (x ∷ behind)))
-shown_inode [] behind x ino inode e = ([], inodes_of behind, ap (λ (s : Option Change). with_inode s (inodes_of behind)) e)
+shown_inode [] behind x ino inode e = ([], inodes_of behind, ap (λ (s : Option Change). with_shown_inode s (inodes_of behind)) e)
 shown_inode (y ∷ before) behind x ino inode e = in_front (shown_by y) (ino, inode) (inodes_of (before ++ (x ∷ behind))) (shown_inode before behind x ino inode e)
 
 pub one_inode_shown : (kept : List Kept) (x : Kept) (ino : ℕ) (inode : Inode) → IsOneOf x kept → shown_by x ≡ Some (SetInode ino inode) → IsOneOf (ino, inode) (inodes_of kept)

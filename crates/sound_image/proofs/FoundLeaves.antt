@@ -22,7 +22,7 @@ use Rattle.leaf_map.specs.Kept.{Kept, Placed, kept_at, node_key, shown}
 use Rattle.leaf_map.specs.LeafMap.{HasKeyOf, IsKeyed, IsLeafMap, are_apart, shows_same}
 use Rattle.leaf_map.specs.Parts.{Committed, Named, Parts, in_bud, is_own, is_shown, own_node}
 use Rattle.leaf_map.specs.RankLaws.{key_of_place}
-use Rattle.leaf_map.specs.Recovered.{copies_left, copy_of_key, found_leaves, is_original, leaf_at, leaves_found, spare_copies, stand_in}
+use Rattle.leaf_map.specs.Recovered.{copies_left, copy_of_key, found_leaves, is_original, leaf_found_for, leaves_found, spare_copies, stand_in}
 use Rattle.log_replay.specs.Settling.{HasGrammar}
 use Rattle.log_replay.specs.Told.{IsSetting}
 use Rattle.sound_image.proofs.Lists.{two_true}
@@ -124,18 +124,18 @@ left_setting copies c None all = by (copy_of_key c.leaf copies) refl
     by None f = rw f all
     by (Some d) f = rw f (filter_setting (λ z. not (shows_same (shown d.node) (shown z.node))) copies all)
 
-found_one : (named : List Named) (copies : List Placed) (c : Committed) (own : Option Placed) → own_node named c ≡ own → HasGrammar c → IsKey c.leaf.key → AreSetting copies → AllByRecursion (IsFoundFor c.leaf) (leaf_at copies c own)
+found_one : (named : List Named) (copies : List Placed) (c : Committed) (own : Option Placed) → own_node named c ≡ own → HasGrammar c → IsKey c.leaf.key → AreSetting copies → AllByRecursion (IsFoundFor c.leaf) (leaf_found_for copies c own)
 found_one named copies c (Some own) e g k all =
     let is = own_of named c own g e in
     let key = key_of_place (kept_at own).leaf (shown own.node) c.leaf.key (setting_key own is.setting) k (sym is.rank) in
     (record { keyed = with_key (kept_at own).leaf c.leaf (shown own.node) key (setting_key own is.setting); key = refl }, tt)
 found_one named copies c None e g k all = copy (copy_of_key c.leaf copies) refl
   where
-    stand : (s : Option LeafNode) → stand_in c.leaf.key ≡ s → copy_of_key c.leaf copies ≡ None → AllByRecursion (IsFoundFor c.leaf) (leaf_at copies c None)
+    stand : (s : Option LeafNode) → stand_in c.leaf.key ≡ s → copy_of_key c.leaf copies ≡ None → AllByRecursion (IsFoundFor c.leaf) (leaf_found_for copies c None)
     stand None s f = rw (f, s) tt
     stand (Some node) s f = rw (f, s) (record { keyed = stand_keyed c.leaf c.leaf.key node refl k s; key = refl }, tt)
 
-    copy : (d : Option Placed) → copy_of_key c.leaf copies ≡ d → AllByRecursion (IsFoundFor c.leaf) (leaf_at copies c None)
+    copy : (d : Option Placed) → copy_of_key c.leaf copies ≡ d → AllByRecursion (IsFoundFor c.leaf) (leaf_found_for copies c None)
     copy None f = stand (stand_in c.leaf.key) refl f
     copy (Some d) f =
         let is = find_all (λ z. IsSetting z.node) (λ z. leaf_rank (kept_at z).leaf == leaf_rank c.leaf) copies d all f in
@@ -188,7 +188,7 @@ join_found leaf leaves (x ∷ front) rest a more =
 all_found : (named : List Named) (copies : List Placed) (cs : List Committed) → AllByRecursion HasGrammar cs → AllByRecursion (λ c. IsKey c.leaf.key) cs → AreSetting copies → AreFoundFor (map (λ c. c.leaf) cs) (found_leaves named copies cs)
 all_found named copies [] g k all = record { keyed = tt; ordered = λ low o. o; numbered = λ most n. tt }
 all_found named copies (c ∷ cs) g k all =
-    join_found c.leaf (map (λ d. d.leaf) cs) (leaf_at copies c (own_node named c)) (found_leaves named (copies_left copies c (own_node named c)) cs) (found_one named copies c (own_node named c) refl g.0 k.0 all)
+    join_found c.leaf (map (λ d. d.leaf) cs) (leaf_found_for copies c (own_node named c)) (found_leaves named (copies_left copies c (own_node named c)) cs) (found_one named copies c (own_node named c) refl g.0 k.0 all)
     (all_found named (copies_left copies c (own_node named c)) cs g.1 k.1 (left_setting copies c (own_node named c) all))
 
 true_keys : (cs : List Committed) → AllByRecursion (λ (x : Leaf). IsKey x.key) (map (λ c. c.leaf) cs) → AllByRecursion (λ c. IsKey c.leaf.key) cs

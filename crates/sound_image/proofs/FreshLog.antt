@@ -14,7 +14,7 @@ use Rattle.leb_scan.specs.Text.{nodes_of}
 use Rattle.leb_scan.specs.declared.found.Found.{Found}
 use Rattle.leb_scan.specs.declared.tail.Tail.TheVariants.{Clean}
 use Rattle.bud_log.specs.Log.{IsLogLeb, next_leb, references_of}
-use Rattle.bud_log.specs.LogText.{LogText, IsTextOf, Refer}
+use Rattle.bud_log.specs.LogText.{LogText, IsLogTextOf, Refer}
 use Rattle.bud_log.specs.LogLaws.{blank-older, next_in}
 use Rattle.sound_image.specs.Laid.{BeginsAlone, IsFreshLog}
 use Rattle.sound_image.specs.Log.{HasLog}
@@ -39,7 +39,7 @@ start_text from bytes sqnum cmt_no gap = record {
   ends = record { lnum = from; offs = length bytes + gap; tail = Clean };
 }
 
-is_start_text : (leb bytes : List ℕ) (from sqnum cmt_no : ℕ) (h : BeginsAlone leb bytes) → IsSystemNode bytes sqnum 0 (commit_start (record { cmt_no = cmt_no })) → IsTextOf leb from (start_text from bytes sqnum cmt_no h.gap)
+is_start_text : (leb bytes : List ℕ) (from sqnum cmt_no : ℕ) (h : BeginsAlone leb bytes) → IsSystemNode bytes sqnum 0 (commit_start (record { cmt_no = cmt_no })) → IsLogTextOf leb from (start_text from bytes sqnum cmt_no h.gap)
 is_start_text leb bytes from sqnum cmt_no h is = record {
   items = alone_items bytes sqnum 0 (commit_start (record { cmt_no = cmt_no })) h.gap;
   is_text = alone_text leb bytes sqnum 0 (commit_start (record { cmt_no = cmt_no })) h is (λ e. absurd cc);

@@ -15,14 +15,14 @@ use Rattle.fs_model.specs.Proper.{is_sound_dir, is_sound_entry, is_sound_inode, 
 use Rattle.leaf_map.specs.Kept.{Kept, shown_by}
 use Rattle.leaf_map.specs.Shown.{entries_of, with_entry}
 use Rattle.sound_image.specs.Image.{Image}
-use Rattle.sound_image.specs.Rules.{Meets}
+use Rattle.sound_image.specs.Rules.{MeetsRule}
 use Rattle.sound_image.specs.Sound.{SoundImage}
 use Rattle.sound_image.specs.Tree.{has_its_links, is_in_place, is_named_well}
 use Rattle.sound_image.specs.declared.rule.Rule.{Rule}
 use Rattle.sound_image.specs.declared.rule.Rule.TheVariants.{Superblock, Masters, Properties, Index, Log, Buds, Leaves, Sums, Ends, Orphans, Tree as OfTree, Links}
 use Rattle.sound_image.proofs.Lists.{two_true}
 
-pub meets_each : (contents : ℕ → List ℕ) (image : Image) (rule : Rule) → SoundImage contents image → Meets contents image rule
+pub meets_each : (contents : ℕ → List ℕ) (image : Image) (rule : Rule) → SoundImage contents image → MeetsRule contents image rule
 meets_each contents image Superblock h = h.superblock
 meets_each contents image Masters h = h.masters
 meets_each contents image Properties h = h.properties
@@ -36,7 +36,7 @@ meets_each contents image Orphans h = h.orphans
 meets_each contents image OfTree h = h.tree
 meets_each contents image Links h = h.links
 
-pub meets_all : (contents : ℕ → List ℕ) (image : Image) → ((rule : Rule) → Meets contents image rule) → SoundImage contents image
+pub meets_all : (contents : ℕ → List ℕ) (image : Image) → ((rule : Rule) → MeetsRule contents image rule) → SoundImage contents image
 meets_all contents image h = record {
   superblock = h Superblock;
   masters = h Masters;

@@ -32,7 +32,7 @@ use Rattle.leaf_map.specs.Kept.{Placed}
 use Rattle.leaf_map.specs.SpaceFound.{space_found}
 use Rattle.leaf_map.specs.Lost.{missing_leaves}
 use Rattle.leaf_map.specs.Recovered.{tree_found}
-use Rattle.sound_image.specs.Image.{Image, named_by, parts_of}
+use Rattle.sound_image.specs.Image.{Image, named_by_ref_node, parts_of}
 use Rattle.sound_image.specs.Index.{HasIndex}
 use Rattle.sound_image.specs.Leaves.{HasItsNode, HasLeaves, IsPlacedIn, IsSoundLeaf, leaves_recovered}
 use Rattle.sound_image.specs.OrphanLists.{HasOrphanNodes}
@@ -41,7 +41,7 @@ use Rattle.sound_image.specs.Space.{committed_bytes}
 use Rattle.sound_image.specs.Sound.{SoundImage}
 use Rattle.sound_image.specs.Summary.{is_clean, main_area_of, space_of_image}
 use Rattle.sound_image.specs.Tree.{HasLinks, HasTree, IsCopy, ShowsItsNode}
-use Rattle.sound_image.specs.Worked.{IsLeastVolume, least_branch, least_geometry, least_image, least_index, least_master, least_props, least_super, root_kept, root_leaf, root_placed}
+use Rattle.sound_image.specs.Worked.{IsLeastVolume, least_branch, least_geometry, least_image, least_index, least_master, least_props, least_super, root_kept, sample_root_leaf, sample_root_placed}
 use Rattle.sound_image.proofs.AloneTexts.{blank_orphans}
 use Rattle.sound_image.proofs.FreshLog.{has_fresh_log, start_text}
 use Rattle.sound_image.proofs.KnownNodes.{plain_known}
@@ -69,17 +69,17 @@ unfolding fls count_leading_zeros
 least_placed = refl
 
 -- ---- the index
-least_stored : (contents : ℕ → List ℕ) → IsIndexNodeAt contents least_branch (record { level = 0; branches = branch_to root_leaf ∷ [] }) → AreStored contents 1 least_index
+least_stored : (contents : ℕ → List ℕ) → IsIndexNodeAt contents least_branch (record { level = 0; branches = branch_to sample_root_leaf ∷ [] }) → AreStored contents 1 least_index
 unfolding AreStored
 least_stored contents h = (ltb-true 0 1 refl, h, (refl, tt), tt)
 
-pub has_index : (contents : ℕ → List ℕ) (props : List Lprop) → is_marked_index least_geometry props 11 ≡ true → IsIndexNodeAt contents least_branch (record { level = 0; branches = branch_to root_leaf ∷ [] })
+pub has_index : (contents : ℕ → List ℕ) (props : List Lprop) → is_marked_index least_geometry props 11 ≡ true → IsIndexNodeAt contents least_branch (record { level = 0; branches = branch_to sample_root_leaf ∷ [] })
     → HasIndex contents least_geometry least_master props least_index
 unfolding key_rank
 has_index contents props marked h = record {
-  key = root_leaf.key;
+  key = sample_root_leaf.key;
   index = record {
-    children = leaf_at root_leaf ended;
+    children = leaf_at sample_root_leaf ended;
     whole = refl;
     levels = 1;
     stored = least_stored contents h;
@@ -92,7 +92,7 @@ has_index contents props marked h = record {
 
 -- ---- what is recovered
 
-least_recovered : leaves_recovered (parts_of (least_image [])) ≡ root_leaf ∷ []
+least_recovered : leaves_recovered (parts_of (least_image [])) ≡ sample_root_leaf ∷ []
 unfolding key_rank same_leaf r5_of
 least_recovered = refl
 
@@ -108,26 +108,26 @@ no_orphans contents blank = ([], [], refl, record { items = []; end = 0; tail = 
 abbrev pub least_with : List Lprop → List LogText → Image
 least_with props log = record (least_image log) { props = props }
 
-root_node : (contents : ℕ → List ℕ) → IsBytes (contents 10) → IsPlacedIn contents root_placed → HasItsNode contents root_leaf
+root_node : (contents : ℕ → List ℕ) → IsBytes (contents 10) → IsPlacedIn contents sample_root_placed → HasItsNode contents sample_root_leaf
 root_node contents fits leaf = record {
-  node = root_placed;
+  node = sample_root_placed;
   placed = record { lnum = refl; offs = refl; len = refl };
   stands = leaf;
   key = refl;
-  known = plain_known contents root_placed fits leaf (refl, refl);
+  known = plain_known contents sample_root_placed fits leaf (refl, refl);
 }
 
-pub has_leaves : (contents : ℕ → List ℕ) (props : List Lprop) (log : List LogText) → IsBytes (contents 10) → IsPlacedIn contents root_placed → AreOrphans contents 9 1 [] → is_unmarked least_geometry props 10 ≡ true
+pub has_leaves : (contents : ℕ → List ℕ) (props : List Lprop) (log : List LogText) → IsBytes (contents 10) → IsPlacedIn contents sample_root_placed → AreOrphans contents 9 1 [] → is_unmarked least_geometry props 10 ≡ true
     → parts_of (least_image log) ≡ parts_of (least_image []) → HasLeaves contents (least_with props log)
 has_leaves contents props log fits leaf orphans unmarked same =
     let P : Leaf → Type 0 = λ leaf. IsSoundLeaf contents least_geometry props leaf in
-    let leaves : leaves_recovered (parts_of (least_image log)) ≡ root_leaf ∷ [] = ap leaves_recovered same ∙ least_recovered in
+    let leaves : leaves_recovered (parts_of (least_image log)) ≡ sample_root_leaf ∷ [] = ap leaves_recovered same ∙ least_recovered in
     let Q : List Leaf → Type 0 = λ xs. All P xs in
     let D : List Leaf → Type 0 = λ xs. are_disjoint (map branch_to xs) ≡ true in
     record {
       committed = (refl, (record { lnum = refl; offs = refl; len = refl }, leaf), tt);
       listed = orphans;
-      sound = subst Q (sym leaves) (All-cons P root_leaf [] (root_node contents fits leaf, unmarked) (All-nil P));
+      sound = subst Q (sym leaves) (All-cons P sample_root_leaf [] (root_node contents fits leaf, unmarked) (All-nil P));
       replaced = ap missing_leaves same ∙ nothing_missing;
       apart = subst D (sym leaves) refl;
     }
@@ -142,7 +142,7 @@ unfolding key_rank same_leaf r5_of
 has_tree contents h = record {
   changes = All-nil (λ (x : Placed). IsSome (change_of x.node));
   copies = All-nil (IsCopy (parts_of (least_image [])));
-  distinct = one_is_distinct root_leaf;
+  distinct = one_is_distinct sample_root_leaf;
   named = refl;
   found = refl;
   shown = All-cons (ShowsItsNode contents) root_kept [] (record { sqnum = 2; group = 0; is = h.leaf.is; shown = refl }) (All-nil (ShowsItsNode contents));
@@ -234,5 +234,5 @@ least_space = refl
 
 pub least_is_told : (log : List LogText) → references_of log ≡ [] → (is_clean (least_image log) ≡ true) × (space_of_image (least_image log) ≡ record { used = 160; held = 0; credits = 0; empty = 0; index = 1; weight = 1; main = 2 })
 least_is_told log none =
-    let same : parts_of (least_image log) ≡ parts_of (least_image []) = ap (λ (nodes : List RefNode). record (parts_of (least_image [])) { named = map named_by nodes }) none in
+    let same : parts_of (least_image log) ≡ parts_of (least_image []) = ap (λ (nodes : List RefNode). record (parts_of (least_image [])) { named = map named_by_ref_node nodes }) none in
     (refl, ap (space_found (main_area_of (least_image []))) same ∙ least_space)

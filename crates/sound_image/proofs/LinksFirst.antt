@@ -10,7 +10,7 @@ use Rattle.fs_model.specs.Proper.{names_of}
 use Rattle.leaf_map.specs.Kept.{Kept, shown_by}
 use Rattle.leaf_map.specs.Parts.{Parts}
 use Rattle.leaf_map.specs.Recovered.{recovered_of, tree_found}
-use Rattle.leaf_map.specs.Shown.{inodes_of, with_inode}
+use Rattle.leaf_map.specs.Shown.{inodes_of, with_shown_inode}
 use Rattle.sound_image.specs.Breaches.{IsWrongLink}
 use Rattle.sound_image.specs.Tree.{HasLinks, has_its_links}
 use Rattle.sound_image.specs.Wrong.{IsFirstWrong, IsOneOf, Wrong, comes_before, differs}
@@ -95,7 +95,7 @@ all_right : (tree : Tree) (kept : List Kept) → wrong_links tree kept ≡ [] �
 all_right tree [] h = refl
 all_right tree (x ∷ kept) h = by (all_right tree kept) (shown_by x) h
   where
-    by : (wrong_links tree kept ≡ [] → list_all (has_its_links tree) (inodes_of kept) ≡ true) → (s : Option Change) → if_wrong tree x s (wrong_links tree kept) ≡ [] → list_all (has_its_links tree) (with_inode s (inodes_of kept)) ≡ true
+    by : (wrong_links tree kept ≡ [] → list_all (has_its_links tree) (inodes_of kept) ≡ true) → (s : Option Change) → if_wrong tree x s (wrong_links tree kept) ≡ [] → list_all (has_its_links tree) (with_shown_inode s (inodes_of kept)) ≡ true
     by more (Some (SetInode ino inode)) k = test (has_its_links tree (ino, inode)) refl k
       where
         test : (b : Bool) → has_its_links tree (ino, inode) ≡ b → (if b then wrong_links tree kept else at_link tree x ino inode ∷ wrong_links tree kept) ≡ [] → (has_its_links tree (ino, inode) && list_all (has_its_links tree) (inodes_of kept)) ≡ true

@@ -39,7 +39,7 @@ use Rattle.sound_image.specs.Log.{HasLog}
 use Rattle.sound_image.specs.LogBreaches.{IsBrokenLog}
 use Rattle.sound_image.specs.Properties.{HasProperties, lpt_root}
 use Rattle.sound_image.specs.PropertyBreaches.{IsWrongProperty}
-use Rattle.sound_image.specs.Rules.{Meets, MeetsBefore, rule_number}
+use Rattle.sound_image.specs.Rules.{MeetsRule, MeetsBefore, rule_number}
 use Rattle.sound_image.specs.Sound.{SoundImage}
 use Rattle.sound_image.specs.Superblock.{BeginsWithSuper, HasSuperblock}
 use Rattle.sound_image.specs.Wrong.{IsFirstWrong, Wrong, differs, needs}
@@ -89,7 +89,7 @@ laws_of node leaf nnode text index list there = record {
 }
 
 -- ---- what is wrong by a rule breaks it
-pub broken_rule : Laws → (contents : ℕ → List ℕ) (image : Image) (rule : Rule) (at : Wrong) → ((k : ℕ) → IsBytes (contents k)) → IsBroken contents image rule at → Meets contents image rule → ⊥
+pub broken_rule : Laws → (contents : ℕ → List ℕ) (image : Image) (rule : Rule) (at : Wrong) → ((k : ℕ) → IsBytes (contents k)) → IsBroken contents image rule at → MeetsRule contents image rule → ⊥
 broken_rule laws contents image Superblock at fits broken h = broken
 broken_rule laws contents image Masters at fits broken h = masters_broken laws.node laws.text contents image.geo image.latest at fits broken.wrong h
 broken_rule laws contents image Properties at fits broken h = properties_broken laws.nnode contents image.geo image.latest.master image.props at (fits image.latest.master.lpt_lnum) broken.wrong h
@@ -271,7 +271,7 @@ rule_again Tree = refl
 rule_again Links = refl
 
 -- a rule that is broken isn't met by what the contents say
-not_met : Laws → (contents : ℕ → List ℕ) (rule : Rule) (at : Wrong) (b : Image) → ((k : ℕ) → IsBytes (contents k)) → IsFirstBroken contents rule at → MeetsBefore contents b rule → Meets contents b rule → ⊥
+not_met : Laws → (contents : ℕ → List ℕ) (rule : Rule) (at : Wrong) (b : Image) → ((k : ℕ) → IsBytes (contents k)) → IsFirstBroken contents rule at → MeetsBefore contents b rule → MeetsRule contents b rule → ⊥
 not_met laws contents rule at b fits (a, before, broken) there met = broken_rule laws contents b rule at fits (moved contents a b rule at (agree laws contents a b rule fits before there) broken) met
 
 -- a lower rule than one that is broken is not broken

@@ -12,7 +12,7 @@ use Rattle.leb_scan.specs.declared.tail.Tail.{Tail}
 use Rattle.small_areas.specs.MasterLaws.{OneText}
 use Rattle.bud_log.specs.Bytes.{bytes_drop}
 use Rattle.bud_log.specs.declared.head_at.HeadAt.{HeadAt}
-use Rattle.journal_scan.specs.Journal.{AreLeaves, BudRead, IsBudRead, IsLeafAt, greatest_found, placed_at}
+use Rattle.journal_scan.specs.Journal.{AreLeaves, BudRead, IsBudRead, IsLeafAt, greatest_number_found, placed_at}
 use Rattle.journal_scan.specs.declared.bud_text.BudText.{BudText}
 use Rattle.leaf_map.specs.Kept.{Placed}
 use Rattle.sound_image.specs.Buds.{HasBuds, IsSoundBud, bud_text}
@@ -80,7 +80,7 @@ one_read text one a b fits e h k =
     let P : BudText → Type 0 = λ t. AreLeaves t (nodes_of h.items) a.nodes in
     let Q : List Found → Type 0 = λ founds. AreLeaves b.bud founds a.nodes in
     let nodes = ap nodes_of same.0 in
-    read_same a.bud b.bud a.nodes b.nodes a.sqnum b.sqnum a.tail b.tail e (one_leaves one b.bud (nodes_of k.items) a.nodes b.nodes fits (subst Q nodes (subst P e h.leaves)) k.leaves) (h.sqnum ∙ ap greatest_found nodes ∙ sym k.sqnum) same.2
+    read_same a.bud b.bud a.nodes b.nodes a.sqnum b.sqnum a.tail b.tail e (one_leaves one b.bud (nodes_of k.items) a.nodes b.nodes fits (subst Q nodes (subst P e h.leaves)) k.leaves) (h.sqnum ∙ ap greatest_number_found nodes ∙ sym k.sqnum) same.2
 
 pub all_read : (reads : List BudRead) → AllByRecursion IsSoundBud reads → AllByRecursion IsBudRead reads
 all_read [] h = tt

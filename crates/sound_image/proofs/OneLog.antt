@@ -4,17 +4,17 @@ use Rattle.std.specs.Prelude.{◌≢◌, IsTrue}
 use Rattle.ubifs_base.specs.NodeLaws.{IsBytes}
 use Rattle.ubifs_base.specs.declared.raw_geometry.RawGeometry.{RawGeometry}
 use Rattle.bud_log.specs.Log.{Run, Stops, next_leb}
-use Rattle.bud_log.specs.LogText.{IsTextOf, LogText, begins_with, is_later, start_of}
+use Rattle.bud_log.specs.LogText.{IsLogTextOf, LogText, begins_with, is_later, start_of}
 use Rattle.small_areas.specs.MasterLaws.{OneNode, OneText}
 use Rattle.bud_log.specs.OneTextLaws.{one_log_text}
 use Rattle.sound_image.specs.LogBreaches.{IsReadOfLog}
 
 -- a LEB can't be both read and not read
-not_both : OneNode → OneText → (contents : ℕ → List ℕ) (from number lnum past : ℕ) (text : LogText) → ((k : ℕ) → IsBytes (contents k)) → Stops contents from number past → lnum ≡ past → lnum ≢ from → IsTextOf (contents lnum) lnum text
+not_both : OneNode → OneText → (contents : ℕ → List ℕ) (from number lnum past : ℕ) (text : LogText) → ((k : ℕ) → IsBytes (contents k)) → Stops contents from number past → lnum ≡ past → lnum ≢ from → IsLogTextOf (contents lnum) lnum text
     → IsTrue (is_later number (begins_with text.nodes)) → ⊥
 not_both one unique contents from number lnum past text fits (inl again) e ne is later = ne (e ∙ again)
 not_both one unique contents from number lnum past text fits (inr (other, there, not_later)) e ne is later =
-    let P : ℕ → Type 0 = λ n. IsTextOf (contents n) n text in
+    let P : ℕ → Type 0 = λ n. IsLogTextOf (contents n) n text in
     let same = one_log_text one unique (contents past) past text other (fits past) (subst P e is) there in
     let both : true ≡ false = sym later ∙ ap (λ (t : LogText). is_later number (begins_with t.nodes)) same ∙ not_later in
     absurd cc

@@ -30,7 +30,7 @@ use Rattle.leaf_map.specs.After.{is_gone, is_idle, is_set, kept_after, kept_by, 
 use Rattle.leaf_map.specs.Kept.{Kept, Placed, kept_at, node_key, shown, shown_by}
 use Rattle.leaf_map.specs.LeafMap.{HasKeyOf, IsKeyed, IsLeafMap}
 use Rattle.leaf_map.specs.Parts.{Committed, Parts}
-use Rattle.leaf_map.specs.Recovered.{committed_highest, highest_key, in_order, is_unlinked, leaves_after, leaves_found, leaves_left, listed_left, moved, placed_node, recovered_of, tree_found, without_orphan}
+use Rattle.leaf_map.specs.Recovered.{committed_highest, highest_key, nodes_in_order, is_unlinked, leaves_after, leaves_found, leaves_left, listed_left, moved_to_its_copy, placed_node, recovered_of, tree_found, without_orphan}
 use Rattle.leaf_map.specs.Shown.{tree_of}
 use Rattle.sound_image.specs.Image.{Image, parts_of}
 use Rattle.sound_image.specs.Sound.{SoundImage}
@@ -63,7 +63,7 @@ pub record LeafLaws : Type 0 where
   pub after : (new : Placed) (kept : List Kept) → IsLeaf new.node → IsLeafMap kept → IsLeafMap (kept_after kept new)
   pub without : (ino : ℕ) (kept : List Kept) → IsLeafMap kept → IsLeafMap (without_orphan kept ino)
   pub sorted : (kept : List Kept) (highest : ℕ) → IsLeafMap kept → IsInOrder (tree_of kept highest)
-  pub elsewhere : (parts : Parts) (kept : List Kept) (highest : ℕ) → tree_of (map (moved parts kept) kept) highest ≡ tree_of kept highest
+  pub elsewhere : (parts : Parts) (kept : List Kept) (highest : ℕ) → tree_of (map (moved_to_its_copy parts kept) kept) highest ≡ tree_of kept highest
 
 map_after : LeafLaws → (nodes : List Placed) (kept : List Kept) → AllByRecursion (λ x. IsLeaf x.node) nodes → IsLeafMap kept → IsLeafMap (fold kept_after kept nodes)
 map_after laws [] kept n m = m
@@ -188,7 +188,7 @@ left_of image = leaves_left (parts_of image)
 
 left_of_index : NodesHavePlaces → StoredIsIndex → LeafLaws → (contents : ℕ → List ℕ) (image : Image) → SoundImage contents image → IsLeafMap (left_of image)
 left_of_index places stored laws contents image h =
-    let nodes = in_order (parts_of image).nodes in
+    let nodes = nodes_in_order (parts_of image).nodes in
     let leaf_nodes = ordered_all (λ x. IsLeaf x.node) (parts_of image).nodes [] tt (have_places places contents image h).leaf_nodes in
     map_without laws (listed_left (parts_of image)) (leaves_after (leaves_found (parts_of image)) nodes) (map_after laws nodes (leaves_found (parts_of image)) leaf_nodes (sound_found stored contents image h))
 
@@ -196,14 +196,14 @@ left_have : StoredIsIndex → (contents : ℕ → List ℕ) (image : Image) → 
 left_have stored contents image h =
     let parts = parts_of image in
     let most = (recovered_of parts).highest in
-    let keys = map (λ x. node_key x.node) (in_order parts.nodes) in
+    let keys = map (λ x. node_key x.node) (nodes_in_order parts.nodes) in
     let is = stored contents image.geo.fanout _ image.placed h.index.index in
     let same = committed_leaves contents (leaves_in (plain image.placed)) image.committed h.leaves.committed in
     let K : List Leaf → Type 0 = λ xs. HaveKeys xs in
     let own = of_keys (map (λ x. x.leaf.key) parts.committed) parts.highest most (from_first keys (committed_highest parts)) in
     let found = found_have most (leaves_found parts) (sound_found stored contents image h).keyed (found_numbers parts most (subst K same is.keyed) (have_grammar contents (leaves_in (plain image.placed)) image.committed h.leaves.committed) (sound_copies contents image h) (keys_of_leaves most parts.committed own)) in
-    let later = keys_of_nodes most (in_order parts.nodes) (of_keys keys (committed_highest parts) most (le_refl most)) in
-    all_without_have most (listed_left parts) (leaves_after (leaves_found parts) (in_order parts.nodes)) (all_after_have most (in_order parts.nodes) (leaves_found parts) later found)
+    let later = keys_of_nodes most (nodes_in_order parts.nodes) (of_keys keys (committed_highest parts) most (le_refl most)) in
+    all_without_have most (listed_left parts) (leaves_after (leaves_found parts) (nodes_in_order parts.nodes)) (all_after_have most (nodes_in_order parts.nodes) (leaves_found parts) later found)
 
 -- what recovered leaves show can stand in a proper tree
 kept_well : (contents : ℕ → List ℕ) (kept : List Kept) → ((k : ℕ) → IsBytes (contents k)) → AllByRecursion (ShowsItsNode contents) kept → AllByRecursion (λ x. IsShownWell (shown_by x)) kept

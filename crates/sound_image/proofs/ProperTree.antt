@@ -22,7 +22,7 @@ use Rattle.fs_model.specs.Files.{Entries, Inodes, Tree, inode_at, name_cmp}
 use Rattle.fs_model.specs.Path.{is_dir}
 use Rattle.fs_model.specs.Proper.{are_numbered, ascends, climbs, has_kind, is_block_node, is_entry_node, is_inode_node, is_linked, is_sound_dir, is_sound_entry, is_sound_inode, names_of, same_kind}
 use Rattle.leaf_map.specs.Kept.{Kept, shown_by}
-use Rattle.leaf_map.specs.Shown.{blocks_of, entries_of, inodes_of, with_block, with_entry, with_inode}
+use Rattle.leaf_map.specs.Shown.{blocks_shown_by, entries_of, inodes_of, with_shown_block, with_entry, with_shown_inode}
 use Rattle.sound_image.specs.Summary.{with_a_link}
 use Rattle.sound_image.proofs.Lists.{two_true}
 use Rattle.sound_image.proofs.ProperNodes.{IsShownWell}
@@ -39,7 +39,7 @@ pub shown_inodes : (kept : List Kept) → AllByRecursion (λ x. IsShownWell (sho
 shown_inodes [] h = refl
 shown_inodes (x ∷ kept) h = by (shown_by x) h.0 (shown_inodes kept h.1)
   where
-    by : (s : Option Change) → IsShownWell s → list_all is_inode_node (map (λ e. (e.0, with_a_link e.1)) (inodes_of kept)) ≡ true → list_all is_inode_node (map (λ e. (e.0, with_a_link e.1)) (with_inode s (inodes_of kept))) ≡ true
+    by : (s : Option Change) → IsShownWell s → list_all is_inode_node (map (λ e. (e.0, with_a_link e.1)) (inodes_of kept)) ≡ true → list_all is_inode_node (map (λ e. (e.0, with_a_link e.1)) (with_shown_inode s (inodes_of kept))) ≡ true
     by (Some (SetInode ino inode)) own rest = both (is_inode_node (ino, with_a_link inode)) (list_all is_inode_node (map (λ e. (e.0, with_a_link e.1)) (inodes_of kept))) own rest
     by None own rest = rest
     by (Some (SetBlock ino number bytes)) own rest = rest
@@ -48,12 +48,12 @@ shown_inodes (x ∷ kept) h = by (shown_by x) h.0 (shown_inodes kept h.1)
     by (Some (CutBlocks ino old_size new_size)) own rest = rest
     by (Some (DropInode ino)) own rest = rest
 
-pub shown_blocks : (kept : List Kept) → AllByRecursion (λ x. IsShownWell (shown_by x)) kept → list_all is_block_node (blocks_of kept) ≡ true
+pub shown_blocks : (kept : List Kept) → AllByRecursion (λ x. IsShownWell (shown_by x)) kept → list_all is_block_node (blocks_shown_by kept) ≡ true
 shown_blocks [] h = refl
 shown_blocks (x ∷ kept) h = by (shown_by x) h.0 (shown_blocks kept h.1)
   where
-    by : (s : Option Change) → IsShownWell s → list_all is_block_node (blocks_of kept) ≡ true → list_all is_block_node (with_block s (blocks_of kept)) ≡ true
-    by (Some (SetBlock ino number bytes)) own rest = both (is_block_node ((ino, number), bytes)) (list_all is_block_node (blocks_of kept)) own rest
+    by : (s : Option Change) → IsShownWell s → list_all is_block_node (blocks_shown_by kept) ≡ true → list_all is_block_node (with_shown_block s (blocks_shown_by kept)) ≡ true
+    by (Some (SetBlock ino number bytes)) own rest = both (is_block_node ((ino, number), bytes)) (list_all is_block_node (blocks_shown_by kept)) own rest
     by None own rest = rest
     by (Some (SetInode ino inode)) own rest = rest
     by (Some (SetEntry e)) own rest = rest
@@ -177,7 +177,7 @@ pub inode_numbers : (most : ℕ) (kept : List Kept) → AllByRecursion (λ x. Sh
 inode_numbers most [] h = refl
 inode_numbers most (x ∷ kept) h = by (shown_by x) h.0 (inode_numbers most kept h.1)
   where
-    by : (s : Option Change) → ShowsNumbers most s → list_all (λ (e : ℕ × Inode). nat_le e.0 most) (inodes_of kept) ≡ true → list_all (λ (e : ℕ × Inode). nat_le e.0 most) (with_inode s (inodes_of kept)) ≡ true
+    by : (s : Option Change) → ShowsNumbers most s → list_all (λ (e : ℕ × Inode). nat_le e.0 most) (inodes_of kept) ≡ true → list_all (λ (e : ℕ × Inode). nat_le e.0 most) (with_shown_inode s (inodes_of kept)) ≡ true
     by (Some (SetInode ino inode)) own rest = both (nat_le ino most) (list_all (λ (e : ℕ × Inode). nat_le e.0 most) (inodes_of kept)) (le-leb ino most own) rest
     by None own rest = rest
     by (Some (SetBlock ino number bytes)) own rest = rest
@@ -186,12 +186,12 @@ inode_numbers most (x ∷ kept) h = by (shown_by x) h.0 (inode_numbers most kept
     by (Some (CutBlocks ino old_size new_size)) own rest = rest
     by (Some (DropInode ino)) own rest = rest
 
-pub block_numbers : (most : ℕ) (kept : List Kept) → AllByRecursion (λ x. ShowsNumbers most (shown_by x)) kept → list_all (λ (e : (ℕ × ℕ) × List ℕ). nat_le e.0.0 most) (blocks_of kept) ≡ true
+pub block_numbers : (most : ℕ) (kept : List Kept) → AllByRecursion (λ x. ShowsNumbers most (shown_by x)) kept → list_all (λ (e : (ℕ × ℕ) × List ℕ). nat_le e.0.0 most) (blocks_shown_by kept) ≡ true
 block_numbers most [] h = refl
 block_numbers most (x ∷ kept) h = by (shown_by x) h.0 (block_numbers most kept h.1)
   where
-    by : (s : Option Change) → ShowsNumbers most s → list_all (λ (e : (ℕ × ℕ) × List ℕ). nat_le e.0.0 most) (blocks_of kept) ≡ true → list_all (λ (e : (ℕ × ℕ) × List ℕ). nat_le e.0.0 most) (with_block s (blocks_of kept)) ≡ true
-    by (Some (SetBlock ino number bytes)) own rest = both (nat_le ino most) (list_all (λ (e : (ℕ × ℕ) × List ℕ). nat_le e.0.0 most) (blocks_of kept)) (le-leb ino most own) rest
+    by : (s : Option Change) → ShowsNumbers most s → list_all (λ (e : (ℕ × ℕ) × List ℕ). nat_le e.0.0 most) (blocks_shown_by kept) ≡ true → list_all (λ (e : (ℕ × ℕ) × List ℕ). nat_le e.0.0 most) (with_shown_block s (blocks_shown_by kept)) ≡ true
+    by (Some (SetBlock ino number bytes)) own rest = both (nat_le ino most) (list_all (λ (e : (ℕ × ℕ) × List ℕ). nat_le e.0.0 most) (blocks_shown_by kept)) (le-leb ino most own) rest
     by None own rest = rest
     by (Some (SetInode ino inode)) own rest = rest
     by (Some (SetEntry e)) own rest = rest

@@ -5,13 +5,13 @@ use Rattle.std.specs.List.{list_any}
 use Rattle.std.proofs.Math.Nat.{min-eq_left, min-eq_right}
 use Rattle.std.proofs.lemmas.Bool.{cases_Bool, cases_lt, eqb-true, leb-false, leb-true}
 use Rattle.media_sys.specs.declared.ref_node.RefNode.{RefNode}
-use Rattle.bud_log.specs.Buds.{buds_of, named}
+use Rattle.bud_log.specs.Buds.{buds_of, named_also}
 use Rattle.bud_log.specs.declared.head_at.HeadAt.{HeadAt}
 use Rattle.index_tree.specs.declared.leaf.Leaf.{Leaf}
 use Rattle.journal_scan.specs.Places.{named_by as named_of}
 use Rattle.leaf_map.specs.Parts.{in_bud, is_named}
 use Rattle.sound_image.specs.Buds.{bud_text}
-use Rattle.sound_image.specs.Image.{named_by}
+use Rattle.sound_image.specs.Image.{named_by_ref_node}
 
 -- a test of places passes at the lesser of two offsets if it passes at one of both
 abbrev PassesAtLesser : (ℕ → ℕ → Bool) → Type 0
@@ -38,22 +38,22 @@ grouped : (x r y : Bool) → (x || (r || y)) ≡ ((x || r) || y)
 grouped true r y = refl
 grouped false r y = refl
 
-one_more : (test : ℕ → ℕ → Bool) → PassesAtLesser test → (buds : List HeadAt) (node : RefNode) → in_heads test (named buds node) ≡ (in_heads test buds || test node.lnum node.offs)
+one_more : (test : ℕ → ℕ → Bool) → PassesAtLesser test → (buds : List HeadAt) (node : RefNode) → in_heads test (named_also buds node) ≡ (in_heads test buds || test node.lnum node.offs)
 one_more test lesser [] node = none_or (test node.lnum node.offs)
 one_more test lesser (bud ∷ buds) node = by (one_more test lesser buds node) (bud.lnum == node.lnum) refl
   where
-    by : in_heads test (named buds node) ≡ (in_heads test buds || test node.lnum node.offs) → (b : Bool) → (bud.lnum == node.lnum) ≡ b
-        → in_heads test (if b then record { head = bud.head; lnum = bud.lnum; offs = min bud.offs node.offs } ∷ buds else bud ∷ named buds node) ≡ (in_heads test (bud ∷ buds) || test node.lnum node.offs)
+    by : in_heads test (named_also buds node) ≡ (in_heads test buds || test node.lnum node.offs) → (b : Bool) → (bud.lnum == node.lnum) ≡ b
+        → in_heads test (if b then record { head = bud.head; lnum = bud.lnum; offs = min bud.offs node.offs } ∷ buds else bud ∷ named_also buds node) ≡ (in_heads test (bud ∷ buds) || test node.lnum node.offs)
     by rest true e =
         let same : bud.lnum ≡ node.lnum = eqb-true bud.lnum node.lnum e in
         ap (λ x. x || in_heads test buds) (lesser bud.lnum bud.offs node.offs) ∙ turned (test bud.lnum bud.offs) (test bud.lnum node.offs) (in_heads test buds)
         ∙ ap (λ (k : ℕ). in_heads test (bud ∷ buds) || test k node.offs) same
     by rest false e = ap (λ x. test bud.lnum bud.offs || x) rest ∙ grouped (test bud.lnum bud.offs) (in_heads test buds) (test node.lnum node.offs)
 
-all_named : (test : ℕ → ℕ → Bool) → PassesAtLesser test → (nodes : List RefNode) (buds : List HeadAt) → in_heads test (fold named buds nodes) ≡ (in_heads test buds || in_nodes test nodes)
+all_named : (test : ℕ → ℕ → Bool) → PassesAtLesser test → (nodes : List RefNode) (buds : List HeadAt) → in_heads test (fold named_also buds nodes) ≡ (in_heads test buds || in_nodes test nodes)
 all_named test lesser [] buds = sym (none_or (in_heads test buds))
 all_named test lesser (node ∷ nodes) buds =
-    all_named test lesser nodes (named buds node) ∙ ap (λ x. x || in_nodes test nodes) (one_more test lesser buds node) ∙ sym (grouped (in_heads test buds) (test node.lnum node.offs) (in_nodes test nodes))
+    all_named test lesser nodes (named_also buds node) ∙ ap (λ x. x || in_nodes test nodes) (one_more test lesser buds node) ∙ sym (grouped (in_heads test buds) (test node.lnum node.offs) (in_nodes test nodes))
 
 -- ---- a place at an offset or behind it
 behind_too : (a b place : ℕ) → a ≤ b → nat_le a place ≡ false → nat_le b place ≡ false
@@ -90,11 +90,11 @@ heads_from : (contents : ℕ → List ℕ) (leaf : Leaf) (buds : List HeadAt) �
 heads_from contents leaf [] = refl
 heads_from contents leaf (bud ∷ buds) = ap (λ b. is_from leaf bud.lnum bud.offs || b) (heads_from contents leaf buds)
 
-nodes_from : (leaf : Leaf) (nodes : List RefNode) → in_bud (map named_by nodes) leaf ≡ in_nodes (is_from leaf) nodes
+nodes_from : (leaf : Leaf) (nodes : List RefNode) → in_bud (map named_by_ref_node nodes) leaf ≡ in_nodes (is_from leaf) nodes
 nodes_from leaf [] = refl
 nodes_from leaf (node ∷ nodes) = ap (λ b. is_from leaf node.lnum node.offs || b) (nodes_from leaf nodes)
 
-pub same_places : (contents : ℕ → List ℕ) (nodes : List RefNode) (leaf : Leaf) → in_bud (map named_by nodes) leaf ≡ in_bud (map named_of (map (bud_text contents) (buds_of nodes))) leaf
+pub same_places : (contents : ℕ → List ℕ) (nodes : List RefNode) (leaf : Leaf) → in_bud (map named_by_ref_node nodes) leaf ≡ in_bud (map named_of (map (bud_text contents) (buds_of nodes))) leaf
 same_places contents nodes leaf = nodes_from leaf nodes ∙ sym (all_named (is_from leaf) (from_lesser leaf) nodes []) ∙ sym (heads_from contents leaf (buds_of nodes))
 
 -- ---- a LEB
@@ -109,9 +109,9 @@ heads_leb : (contents : ℕ → List ℕ) (k : ℕ) (buds : List HeadAt) → is_
 heads_leb contents k [] = refl
 heads_leb contents k (bud ∷ buds) = ap (λ b. (bud.lnum == k) || b) (heads_leb contents k buds)
 
-nodes_leb : (k : ℕ) (nodes : List RefNode) → is_named (map named_by nodes) k ≡ in_nodes (is_leb k) nodes
+nodes_leb : (k : ℕ) (nodes : List RefNode) → is_named (map named_by_ref_node nodes) k ≡ in_nodes (is_leb k) nodes
 nodes_leb k [] = refl
 nodes_leb k (node ∷ nodes) = ap (λ b. (node.lnum == k) || b) (nodes_leb k nodes)
 
-pub same_lebs : (contents : ℕ → List ℕ) (nodes : List RefNode) (k : ℕ) → is_named (map named_by nodes) k ≡ is_named (map named_of (map (bud_text contents) (buds_of nodes))) k
+pub same_lebs : (contents : ℕ → List ℕ) (nodes : List RefNode) (k : ℕ) → is_named (map named_by_ref_node nodes) k ≡ is_named (map named_of (map (bud_text contents) (buds_of nodes))) k
 same_lebs contents nodes k = nodes_leb k nodes ∙ sym (all_named (is_leb k) (λ lnum a b. itself_or (lnum == k)) nodes []) ∙ sym (heads_leb contents k (buds_of nodes))

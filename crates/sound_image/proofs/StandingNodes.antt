@@ -8,7 +8,7 @@ use Rattle.leb_scan.specs.Text.{nodes_of}
 use Rattle.leb_scan.specs.declared.found.Found.{Found}
 use Rattle.media_leaf.specs.LeafNode.{IsLeaf, IsLeafNode}
 use Rattle.leaf_map.specs.Kept.{Placed}
-use Rattle.journal_scan.specs.Journal.{AreLeaves, BudRead, IsLeafAt, copies_in, if_changes, if_copies, is_unfinished, nodes_in, taken, whole_groups}
+use Rattle.journal_scan.specs.Journal.{AreLeaves, BudRead, IsLeafAt, copies_in, if_changes, if_copies, is_unfinished, journal_nodes_in, nodes_taken_of, whole_groups}
 use Rattle.journal_scan.specs.declared.bud_text.BudText.{BudText}
 use Rattle.sound_image.specs.Buds.{HasBuds, IsSoundBud, bud_text}
 use Rattle.sound_image.specs.Leaves.{IsPlacedIn}
@@ -48,23 +48,23 @@ whole_all Q (x ∷ nodes) a = by (is_unfinished (x ∷ nodes)) (whole_all Q node
     by true more = tt
     by false more = (a.0, more)
 
-copies_of : (Q : Placed → Type 0) (head : JournalHead) (nodes : List Placed) → AllByRecursion Q nodes → AllByRecursion Q (if_copies head (taken head nodes))
+copies_of : (Q : Placed → Type 0) (head : JournalHead) (nodes : List Placed) → AllByRecursion Q nodes → AllByRecursion Q (if_copies head (nodes_taken_of head nodes))
 copies_of Q Collector nodes a = a
 copies_of Q Base nodes a = tt
 copies_of Q Data nodes a = tt
 
-changes_of : (Q : Placed → Type 0) (head : JournalHead) (nodes : List Placed) → AllByRecursion Q nodes → AllByRecursion Q (if_changes head (taken head nodes))
+changes_of : (Q : Placed → Type 0) (head : JournalHead) (nodes : List Placed) → AllByRecursion Q nodes → AllByRecursion Q (if_changes head (nodes_taken_of head nodes))
 changes_of Q Collector nodes a = tt
 changes_of Q Base nodes a = whole_all Q nodes a
 changes_of Q Data nodes a = whole_all Q nodes a
 
 all_copies : (Q : Placed → Type 0) (reads : List BudRead) → AllByRecursion (λ (r : BudRead). AllByRecursion Q r.nodes) reads → AllByRecursion Q (copies_in reads)
 all_copies Q [] a = tt
-all_copies Q (r ∷ reads) a = both_all Q (if_copies r.bud.head (taken r.bud.head r.nodes)) (copies_in reads) (copies_of Q r.bud.head r.nodes a.0) (all_copies Q reads a.1)
+all_copies Q (r ∷ reads) a = both_all Q (if_copies r.bud.head (nodes_taken_of r.bud.head r.nodes)) (copies_in reads) (copies_of Q r.bud.head r.nodes a.0) (all_copies Q reads a.1)
 
-all_changes : (Q : Placed → Type 0) (reads : List BudRead) → AllByRecursion (λ (r : BudRead). AllByRecursion Q r.nodes) reads → AllByRecursion Q (nodes_in reads)
+all_changes : (Q : Placed → Type 0) (reads : List BudRead) → AllByRecursion (λ (r : BudRead). AllByRecursion Q r.nodes) reads → AllByRecursion Q (journal_nodes_in reads)
 all_changes Q [] a = tt
-all_changes Q (r ∷ reads) a = both_all Q (if_changes r.bud.head (taken r.bud.head r.nodes)) (nodes_in reads) (changes_of Q r.bud.head r.nodes a.0) (all_changes Q reads a.1)
+all_changes Q (r ∷ reads) a = both_all Q (if_changes r.bud.head (nodes_taken_of r.bud.head r.nodes)) (journal_nodes_in reads) (changes_of Q r.bud.head r.nodes a.0) (all_changes Q reads a.1)
 
 reads_stand : (contents : ℕ → List ℕ) (reads : List BudRead) → AllByRecursion (HasBytes contents) (map (λ x. x.bud) reads) → AllByRecursion IsSoundBud reads → AllByRecursion (λ (r : BudRead). AllByRecursion (IsPlacedIn contents) r.nodes) reads
 reads_stand contents [] e s = tt
@@ -78,7 +78,7 @@ all_stand contents buds reads h =
 pub copies_stand : (contents : ℕ → List ℕ) (buds : List HeadAt) (reads : List BudRead) → HasBuds contents buds reads → AllByRecursion (IsPlacedIn contents) (copies_in reads)
 copies_stand contents buds reads h = all_copies (IsPlacedIn contents) reads (all_stand contents buds reads h)
 
-pub nodes_stand : (contents : ℕ → List ℕ) (buds : List HeadAt) (reads : List BudRead) → HasBuds contents buds reads → AllByRecursion (IsPlacedIn contents) (nodes_in reads)
+pub nodes_stand : (contents : ℕ → List ℕ) (buds : List HeadAt) (reads : List BudRead) → HasBuds contents buds reads → AllByRecursion (IsPlacedIn contents) (journal_nodes_in reads)
 nodes_stand contents buds reads h = all_changes (IsPlacedIn contents) reads (all_stand contents buds reads h)
 
 -- and so they are of the grammar

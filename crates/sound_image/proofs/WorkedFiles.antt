@@ -17,12 +17,12 @@ use Rattle.leaf_map.specs.LeafMap.{shows_same}
 use Rattle.leaf_map.specs.Lost.{empty_names, missing_leaves}
 use Rattle.leaf_map.specs.Parts.{Parts}
 use Rattle.leaf_map.specs.Recovered.{leaves_found, recovered_of, tree_found}
-use Rattle.sound_image.specs.Breaches.{IsFirstBreach, IsWrongInTree, is_misfit, number_of}
+use Rattle.sound_image.specs.Breaches.{IsFirstBreach, IsWrongInTree, is_misfit, inode_number_of}
 use Rattle.sound_image.specs.Image.{Image, parts_of}
 use Rattle.sound_image.specs.Leaves.{HasItsNode, HasLeaves, IsSoundLeaf, leaves_recovered}
 use Rattle.sound_image.specs.OrphanLists.{HasOrphanLists}
 use Rattle.sound_image.specs.Rules.{MeetsBefore}
-use Rattle.sound_image.specs.Worked.{HasRootFile, file_placed, least_geometry, least_image, least_master, least_props, root_leaf}
+use Rattle.sound_image.specs.Worked.{HasRootFile, file_placed, least_geometry, least_image, least_master, least_props, sample_root_leaf}
 use Rattle.sound_image.specs.Wrong.{IsFirstWrong, Wrong, comes_before, differs}
 use Rattle.sound_image.specs.declared.breach.Breach.TheVariants.{Damaged}
 use Rattle.sound_image.specs.declared.rule.Rule.TheVariants as rules
@@ -48,10 +48,10 @@ before_tree contents image h orphans rules.Tree n = absurd (omega (arith, n))
 before_tree contents image h orphans rules.Links n = absurd (omega (arith, n))
 
 abbrev file_image : List LogText → Image
-file_image log = record (least_image log) { committed = record { leaf = root_leaf; found = Some file_placed } ∷ [] }
+file_image log = record (least_image log) { committed = record { leaf = sample_root_leaf; found = Some file_placed } ∷ [] }
 
 abbrev file_kept : Kept
-file_kept = record { leaf = root_leaf; sqnum = 2; node = file_placed.node }
+file_kept = record { leaf = sample_root_leaf; sqnum = 2; node = file_placed.node }
 
 abbrev file_parts : Parts
 file_parts = parts_of (file_image [])
@@ -64,7 +64,7 @@ file_found : leaves_found file_parts ≡ file_kept ∷ []
 unfolding key_rank same_leaf r5_of
 file_found = refl
 
-file_leaves : leaves_recovered file_parts ≡ root_leaf ∷ []
+file_leaves : leaves_recovered file_parts ≡ sample_root_leaf ∷ []
 unfolding key_rank same_leaf r5_of
 file_leaves = refl
 
@@ -84,7 +84,7 @@ file_root : (inode : Inode) × (inode_at (tree_found file_parts) 1 ≡ Some inod
 unfolding key_rank same_leaf r5_of
 file_root = (_, refl)
 
-file_node : (contents : ℕ → List ℕ) → HasRootFile contents → HasItsNode contents root_leaf
+file_node : (contents : ℕ → List ℕ) → HasRootFile contents → HasItsNode contents sample_root_leaf
 file_node contents h = record {
   node = file_placed;
   placed = record { lnum = refl; offs = refl; len = refl };
@@ -96,13 +96,13 @@ file_node contents h = record {
 has_file : (contents : ℕ → List ℕ) (log : List LogText) → HasRootFile contents → parts_of (file_image log) ≡ file_parts → HasLeaves contents (file_image log)
 has_file contents log h same =
     let P : Leaf → Type 0 = λ leaf. IsSoundLeaf contents least_geometry least_props leaf in
-    let leaves : leaves_recovered (parts_of (file_image log)) ≡ root_leaf ∷ [] = ap leaves_recovered same ∙ file_leaves in
+    let leaves : leaves_recovered (parts_of (file_image log)) ≡ sample_root_leaf ∷ [] = ap leaves_recovered same ∙ file_leaves in
     let Q : List Leaf → Type 0 = λ xs. All P xs in
     let D : List Leaf → Type 0 = λ xs. are_disjoint (map branch_to xs) ≡ true in
     record {
       committed = (refl, (record { lnum = refl; offs = refl; len = refl }, h.leaf), tt);
       listed = no_orphans contents h.orphans;
-      sound = subst Q (sym leaves) (All-cons P root_leaf [] (file_node contents h, refl) (All-nil P));
+      sound = subst Q (sym leaves) (All-cons P sample_root_leaf [] (file_node contents h, refl) (All-nil P));
       replaced = ap missing_leaves same ∙ none_missing;
       apart = subst D (sym leaves) refl;
     }
@@ -126,7 +126,7 @@ file_least : (contents : ℕ → List ℕ) (other : Wrong) → IsWrongInTree con
 file_least contents other (inl (x, inl ((before, behind, e), none), is)) = absurd (none_there x before behind e)
 file_least contents other (inl (x, inr ((before, behind, e), none), is)) = absurd (none_there x before behind e)
 file_least contents other (inr (inl (leaf, before, behind, e, again, is))) =
-    let f : true ≡ false = sym again ∙ ap (holds leaf) (one_alone root_leaf leaf before behind e).0 in
+    let f : true ≡ false = sym again ∙ ap (holds leaf) (one_alone sample_root_leaf leaf before behind e).0 in
     absurd cc
 file_least contents other (inr (inr (inl (x, before, behind, e, again, is)))) =
     let own = one_alone file_kept x before behind (sym file_found ∙ e) in
@@ -134,7 +134,7 @@ file_least contents other (inr (inr (inl (x, before, behind, e, again, is)))) =
     absurd cc
 file_least contents other (inr (inr (inr (inl (x, (before, behind, e), is, there))))) =
     let own = (one_alone file_kept x before behind (sym file_recovered ∙ e)).1 in
-    itself other (is ∙ ap (λ (k : Kept). record { lnum = k.leaf.lnum; offs = k.leaf.offs; misfit = differs (number_of k) 0 }) (sym own))
+    itself other (is ∙ ap (λ (k : Kept). record { lnum = k.leaf.lnum; offs = k.leaf.offs; misfit = differs (inode_number_of k) 0 }) (sym own))
 file_least contents other (inr (inr (inr (inr (inl (leaf, one, is)))))) = absurd (none_of leaf (empty_names file_parts) one none_empty)
 file_least contents other (inr (inr (inr (inr (inr (none, is)))))) = let e = sym none ∙ file_root.1 in absurd cc
 

@@ -23,7 +23,7 @@ use Rattle.sound_image.specs.Image.{Image, parts_of}
 use Rattle.sound_image.specs.IndexBreaches.{IsWanted, LacksIndexNode, NodeWanted, index_misfit, root_wanted}
 use Rattle.sound_image.specs.LeafBreaches.{HasLeafNodeOf, IsLeafMisfit, IsWrongLeaf}
 use Rattle.sound_image.specs.Leaves.{IsPlaceOf, IsPlacedIn, IsSoundLeaf, leaves_recovered}
-use Rattle.sound_image.specs.Worked.{IsLeastWith, LacksItsLeaf, least_branch, least_geometry, least_image, least_master, least_props, root_leaf, unmarked_props}
+use Rattle.sound_image.specs.Worked.{IsLeastWith, LacksItsLeaf, least_branch, least_geometry, least_image, least_master, least_props, sample_root_leaf, unmarked_props}
 use Rattle.sound_image.specs.Wrong.{IsFirstWrong, Misfit, Wrong, differs, type_byte}
 use Rattle.sound_image.specs.declared.breach.Breach.TheVariants.{Damaged}
 use Rattle.sound_image.specs.declared.rule.Rule.TheVariants as rules
@@ -37,7 +37,7 @@ use Rattle.sound_image.proofs.WorkedRows.{before_index, before_leaves, least_sup
 
 -- ---- the root of the index stands in a LEB that isn't marked
 abbrev root_said : Index
-root_said = record { level = 0; branches = branch_to root_leaf ∷ [] }
+root_said = record { level = 0; branches = branch_to sample_root_leaf ∷ [] }
 
 -- the master names the place of the root, and so does the branch to it
 at_root : (contents : ℕ → List ℕ) (said : Index) → IsIndexNodeAt contents (root_wanted least_master).branch said → IsIndexNodeAt contents least_branch said
@@ -90,9 +90,9 @@ unmarked_row one contents h =
 
 -- ---- the leaf is erased
 abbrev lost_image : List LogText → Image
-lost_image log = record (least_image log) { committed = record { leaf = root_leaf; found = None } ∷ [] }
+lost_image log = record (least_image log) { committed = record { leaf = sample_root_leaf; found = None } ∷ [] }
 
-lost_recovered : leaves_recovered (parts_of (lost_image [])) ≡ root_leaf ∷ []
+lost_recovered : leaves_recovered (parts_of (lost_image [])) ≡ sample_root_leaf ∷ []
 unfolding key_rank same_leaf r5_of
 lost_recovered = refl
 
@@ -101,24 +101,24 @@ unfolding key_rank same_leaf r5_of
 none_missing = refl
 
 -- a node that is placed where the root's leaf says
-root_frame : (contents : ℕ → List ℕ) (node : Placed) → IsPlaceOf root_leaf node → (stands : IsPlacedIn contents node) → IsNode (take 160 (drop 0 (contents 10))) node.sqnum (type_of node.node) node.group stands.is.body
+root_frame : (contents : ℕ → List ℕ) (node : Placed) → IsPlaceOf sample_root_leaf node → (stands : IsPlacedIn contents node) → IsNode (take 160 (drop 0 (contents 10))) node.sqnum (type_of node.node) node.group stands.is.body
 root_frame contents node place stands =
     let L : ℕ → Type 0 = λ n. IsNode (take n (drop node.offs (contents node.lnum))) node.sqnum (type_of node.node) node.group stands.is.body in
     let O : ℕ → Type 0 = λ n. IsNode (take 160 (drop n (contents node.lnum))) node.sqnum (type_of node.node) node.group stands.is.body in
     let P : ℕ → Type 0 = λ n. IsNode (take 160 (drop 0 (contents n))) node.sqnum (type_of node.node) node.group stands.is.body in
     subst P place.lnum (subst O place.offs (subst L place.len stands.is.framed))
 
-no_leaf_node : (contents : ℕ → List ℕ) (len : ℕ) → is_blank (contents 10) ≡ true → HasLeafNodeOf contents root_leaf len → ⊥
+no_leaf_node : (contents : ℕ → List ℕ) (len : ℕ) → is_blank (contents 10) ≡ true → HasLeafNodeOf contents sample_root_leaf len → ⊥
 no_leaf_node contents len blank h = no_node (contents 10) h.is.body 0 len h.sqnum (type_of h.node) h.group blank h.is.framed
 
-one_alone : (leaf : Leaf) (before behind : List Leaf) → root_leaf ∷ [] ≡ before ++ (leaf ∷ behind) → root_leaf ≡ leaf
-one_alone leaf [] behind h = (cons_parts root_leaf leaf [] behind h).0
-one_alone leaf (b ∷ before) behind h = let none = (cons_parts root_leaf b [] (before ++ (leaf ∷ behind)) h).1 in absurd (none_of leaf (before ++ (leaf ∷ behind)) (before, behind, refl) (sym none))
+one_alone : (leaf : Leaf) (before behind : List Leaf) → sample_root_leaf ∷ [] ≡ before ++ (leaf ∷ behind) → sample_root_leaf ≡ leaf
+one_alone leaf [] behind h = (cons_parts sample_root_leaf leaf [] behind h).0
+one_alone leaf (b ∷ before) behind h = let none = (cons_parts sample_root_leaf b [] (before ++ (leaf ∷ behind)) h).1 in absurd (none_of leaf (before ++ (leaf ∷ behind)) (before, behind, refl) (sym none))
 
 no_feature : (contents : ℕ → List ℕ) → is_blank (contents 10) ≡ true → IsKnownAt (contents 10) 0
 no_feature contents blank = blank_known (contents 10) 0 blank
 
-leaf_misfit : (contents : ℕ → List ℕ) (misfit : Misfit) → is_blank (contents 10) ≡ true → IsLeafMisfit contents root_leaf misfit → misfit ≡ differs 0 (type_byte (contents 10) 0)
+leaf_misfit : (contents : ℕ → List ℕ) (misfit : Misfit) → is_blank (contents 10) ≡ true → IsLeafMisfit contents sample_root_leaf misfit → misfit ≡ differs 0 (type_byte (contents 10) 0)
 leaf_misfit contents misfit blank (inl (what, needs, e)) = absurd (no_feature contents blank what needs)
 leaf_misfit contents misfit blank (inr (known, inl (none, e))) = e
 leaf_misfit contents misfit blank (inr (known, inr (len, has, e))) = absurd (no_leaf_node contents len blank has)
@@ -129,14 +129,14 @@ erased_byte contents blank = blank_byte (contents 10) 20 blank
 lost_first : (contents : ℕ → List ℕ) (log : List LogText) → is_blank (contents 10) ≡ true → parts_of (lost_image log) ≡ parts_of (lost_image []) → IsFirstWrong (IsWrongLeaf contents least_geometry least_props (parts_of (lost_image log))) (record { lnum = 10; offs = 0; misfit = differs 0 255 })
 lost_first contents log blank same =
     let at : Wrong = record { lnum = 10; offs = 0; misfit = differs 0 255 } in
-    let leaves : leaves_recovered (parts_of (lost_image log)) ≡ root_leaf ∷ [] = ap leaves_recovered same ∙ lost_recovered in
+    let leaves : leaves_recovered (parts_of (lost_image log)) ≡ sample_root_leaf ∷ [] = ap leaves_recovered same ∙ lost_recovered in
     let none : missing_leaves (parts_of (lost_image log)) ≡ [] = ap missing_leaves same ∙ none_missing in
-    let told : IsLeafMisfit contents root_leaf (differs 0 255) = inr (no_feature contents blank, inl (λ len has. no_leaf_node contents len blank has, ap (differs 0) (sym (erased_byte contents blank)))) in
-    let unsound : IsSoundLeaf contents least_geometry least_props root_leaf → ⊥ = λ sound. no_node (contents 10) sound.0.stands.is.body 0 160 sound.0.node.sqnum (type_of sound.0.node.node) sound.0.node.group blank (root_frame contents sound.0.node sound.0.placed sound.0.stands) in
+    let told : IsLeafMisfit contents sample_root_leaf (differs 0 255) = inr (no_feature contents blank, inl (λ len has. no_leaf_node contents len blank has, ap (differs 0) (sym (erased_byte contents blank)))) in
+    let unsound : IsSoundLeaf contents least_geometry least_props sample_root_leaf → ⊥ = λ sound. no_node (contents 10) sound.0.stands.is.body 0 160 sound.0.node.sqnum (type_of sound.0.node.node) sound.0.node.group blank (root_frame contents sound.0.node sound.0.placed sound.0.stands) in
     record {
-      wrong = record { leaf = root_leaf; lnum = refl; offs = refl; wrong = inr ([], [], leaves, inl unsound); misfit = told };
+      wrong = record { leaf = sample_root_leaf; lnum = refl; offs = refl; wrong = inr ([], [], leaves, inl unsound); misfit = told };
       least = λ other wrong.
-          let own : root_leaf ≡ wrong.leaf = elim wrong.wrong [
+          let own : sample_root_leaf ≡ wrong.leaf = elim wrong.wrong [
             | inl missing ↦ absurd (none_of wrong.leaf (missing_leaves (parts_of (lost_image log))) missing none)
             | inr (before, behind, e, bad) ↦ one_alone wrong.leaf before behind (sym leaves ∙ e)
           ] in
@@ -157,7 +157,7 @@ lost_leaf_row contents h =
         index = has_index contents least_props refl h.index;
       }) (has_fresh_log contents least_geometry least_master 1 (leb-true 3 4 refl) (ltb-true 1 (2 ^ 64) refl) (ltb-true 0 (2 ^ 64) refl) h.log) (record { of_buds = refl; sound = tt }),
       record {
-        committed = record { leaf = root_leaf; found = None } ∷ [];
+        committed = record { leaf = sample_root_leaf; found = None } ∷ [];
         listed = [];
         are_committed = (refl, (λ node place stands. no_node (contents 10) stands.is.body 0 160 node.sqnum (type_of node.node) node.group h.leaf (root_frame contents node place stands)), tt);
         are_listed = ([], [], refl, record { items = []; end = 0; tail = Clean; is_text = record { stand = refl; ends = h.orphans }; listed = refl }, refl);

@@ -36,7 +36,7 @@ use Rattle.sound_image.specs.Properties.{is_marked_index, prop_of}
 use Rattle.sound_image.specs.Rules.{MeetsBefore}
 use Rattle.sound_image.specs.Space.{committed_bytes}
 use Rattle.sound_image.specs.Tree.{HasTree, IsCopy, ShowsItsNode, has_its_links}
-use Rattle.sound_image.specs.Worked.{HasLoneFile, least_geometry, lone_branch, lone_index, lone_inode, lone_latest, lone_leaf, lone_placed, lone_props, root_inode, root_kept, root_leaf, root_placed}
+use Rattle.sound_image.specs.Worked.{HasLoneFile, least_geometry, lone_branch, lone_index, lone_inode, lone_latest, lone_leaf, lone_placed, lone_props, sample_root_inode, root_kept, sample_root_leaf, sample_root_placed}
 use Rattle.sound_image.specs.Wrong.{IsFirstWrong, Wrong, comes_before, differs}
 use Rattle.sound_image.specs.declared.breach.Breach.TheVariants.{Damaged}
 use Rattle.sound_image.specs.declared.rule.Rule.TheVariants as rules
@@ -71,7 +71,7 @@ lone_image log = record {
   placed = lone_index;
   log = log;
   buds = [];
-  committed = record { leaf = root_leaf; found = Some root_placed } ∷ record { leaf = lone_leaf; found = Some lone_placed } ∷ [];
+  committed = record { leaf = sample_root_leaf; found = Some sample_root_placed } ∷ record { leaf = lone_leaf; found = Some lone_placed } ∷ [];
   listed = [];
 }
 
@@ -85,7 +85,7 @@ lone_recovered : (recovered_of lone_parts).kept ≡ root_kept ∷ lone_kept ∷ 
 unfolding key_rank same_leaf r5_of
 lone_recovered = refl
 
-lone_leaves : leaves_recovered lone_parts ≡ root_leaf ∷ lone_leaf ∷ []
+lone_leaves : leaves_recovered lone_parts ≡ sample_root_leaf ∷ lone_leaf ∷ []
 unfolding key_rank same_leaf r5_of
 lone_leaves = refl
 
@@ -98,16 +98,16 @@ unfolding fls count_leading_zeros
 masters_placed = refl
 
 -- ---- its index
-stored : (contents : ℕ → List ℕ) → IsIndexNodeAt contents lone_branch (record { level = 0; branches = branch_to root_leaf ∷ branch_to lone_leaf ∷ [] }) → AreStored contents 1 lone_index
+stored : (contents : ℕ → List ℕ) → IsIndexNodeAt contents lone_branch (record { level = 0; branches = branch_to sample_root_leaf ∷ branch_to lone_leaf ∷ [] }) → AreStored contents 1 lone_index
 unfolding AreStored
 stored contents h = (ltb-true 0 1 refl, h, (refl, (refl, tt)), tt)
 
 has_index : (contents : ℕ → List ℕ) → HasLoneFile contents → HasIndex contents least_geometry lone_latest.master lone_props lone_index
 unfolding key_rank
 has_index contents h = record {
-  key = root_leaf.key;
+  key = sample_root_leaf.key;
   index = record {
-    children = leaf_at root_leaf (leaf_at lone_leaf ended);
+    children = leaf_at sample_root_leaf (leaf_at lone_leaf ended);
     whole = refl;
     levels = 1;
     stored = stored contents h.index;
@@ -119,8 +119,8 @@ has_index contents h = record {
 }
 
 -- ---- its leaves
-root_there : (contents : ℕ → List ℕ) → HasLoneFile contents → HasItsNode contents root_leaf
-root_there contents h = record { node = root_placed; placed = record { lnum = refl; offs = refl; len = refl }; stands = h.root; key = refl; known = plain_known contents root_placed (h.begins.bytes 10) h.root (refl, refl) }
+root_there : (contents : ℕ → List ℕ) → HasLoneFile contents → HasItsNode contents sample_root_leaf
+root_there contents h = record { node = sample_root_placed; placed = record { lnum = refl; offs = refl; len = refl }; stands = h.root; key = refl; known = plain_known contents sample_root_placed (h.begins.bytes 10) h.root (refl, refl) }
 
 file_there : (contents : ℕ → List ℕ) → HasLoneFile contents → HasItsNode contents lone_leaf
 file_there contents h = record { node = lone_placed; placed = record { lnum = refl; offs = refl; len = refl }; stands = h.file; key = refl; known = plain_known contents lone_placed (h.begins.bytes 10) h.file (refl, refl) }
@@ -128,19 +128,19 @@ file_there contents h = record { node = lone_placed; placed = record { lnum = re
 has_leaves : (contents : ℕ → List ℕ) (log : List LogText) → HasLoneFile contents → parts_of (lone_image log) ≡ lone_parts → HasLeaves contents (lone_image log)
 has_leaves contents log h same =
     let P : Leaf → Type 0 = λ leaf. IsSoundLeaf contents least_geometry lone_props leaf in
-    let leaves : leaves_recovered (parts_of (lone_image log)) ≡ root_leaf ∷ lone_leaf ∷ [] = ap leaves_recovered same ∙ lone_leaves in
+    let leaves : leaves_recovered (parts_of (lone_image log)) ≡ sample_root_leaf ∷ lone_leaf ∷ [] = ap leaves_recovered same ∙ lone_leaves in
     let Q : List Leaf → Type 0 = λ xs. All P xs in
     let D : List Leaf → Type 0 = λ xs. are_disjoint (map branch_to xs) ≡ true in
     record {
       committed = (refl, (record { lnum = refl; offs = refl; len = refl }, h.root), (refl, (record { lnum = refl; offs = refl; len = refl }, h.file), tt));
       listed = no_orphans contents h.orphans;
-      sound = subst Q (sym leaves) (All-cons P root_leaf (lone_leaf ∷ []) (root_there contents h, refl) (All-cons P lone_leaf [] (file_there contents h, refl) (All-nil P)));
+      sound = subst Q (sym leaves) (All-cons P sample_root_leaf (lone_leaf ∷ []) (root_there contents h, refl) (All-cons P lone_leaf [] (file_there contents h, refl) (All-nil P)));
       replaced = ap missing_leaves same ∙ none_missing;
       apart = subst D (sym leaves) refl;
     }
 
 -- ---- its tree
-both_distinct : AreDistinct (root_leaf ∷ lone_leaf ∷ [])
+both_distinct : AreDistinct (sample_root_leaf ∷ lone_leaf ∷ [])
 unfolding IsDistinct same_leaf key_rank
 both_distinct = ((refl, tt), (tt, tt))
 
@@ -208,7 +208,7 @@ no_names : length (names_of (tree_found lone_parts) 65) ≡ 0
 unfolding key_rank same_leaf r5_of
 no_names = refl
 
-root_fine : has_its_links (tree_found lone_parts) (1, inode_of root_inode Dir) ≡ true
+root_fine : has_its_links (tree_found lone_parts) (1, inode_of sample_root_inode Dir) ≡ true
 unfolding key_rank same_leaf r5_of
 root_fine = refl
 
@@ -229,8 +229,8 @@ lone_least other wrong =
     let S : Kept → Type 0 = λ k. shown_by k ≡ Some (SetInode wrong.ino wrong.inode) in
     elim (two_there root_kept lone_kept wrong.x wrong.one.0 wrong.one.1 parts) [
       | inl own ↦
-          let is = shown_same 1 wrong.ino (inode_of root_inode Dir) wrong.inode (subst S (sym own) wrong.shows) in
-          let e : true ≡ false = sym root_fine ∙ ap (λ (n : ℕ). has_its_links (tree_found lone_parts) (n, inode_of root_inode Dir)) is.0 ∙ ap (λ (i : Inode). has_its_links (tree_found lone_parts) (wrong.ino, i)) is.1 ∙ wrong.other in
+          let is = shown_same 1 wrong.ino (inode_of sample_root_inode Dir) wrong.inode (subst S (sym own) wrong.shows) in
+          let e : true ≡ false = sym root_fine ∙ ap (λ (n : ℕ). has_its_links (tree_found lone_parts) (n, inode_of sample_root_inode Dir)) is.0 ∙ ap (λ (i : Inode). has_its_links (tree_found lone_parts) (wrong.ino, i)) is.1 ∙ wrong.other in
           absurd cc
       | inr own ↦
           let is = shown_same 65 wrong.ino (inode_of lone_inode File) wrong.inode (subst S (sym own) wrong.shows) in

@@ -124,8 +124,8 @@ abbrev pub IsAtNode : Kept → Misfit → Wrong → Type 0
 IsAtNode x misfit at = at ≡ record { lnum = x.leaf.lnum; offs = x.leaf.offs; misfit = misfit }
 
 -- the inode number by which a leaf is named: that for which an entry stands, and else the one in its key
-abbrev pub number_of : Kept → ℕ
-number_of x = by (shown_by x)
+abbrev pub inode_number_of : Kept → ℕ
+inode_number_of x = by (shown_by x)
   where
     by : Option Change → ℕ
     by (Some (SetEntry e)) = e.ino
@@ -155,7 +155,7 @@ IsWrongThere contents parts x = (ShowsItsNode contents x → ⊥) ⊎ IsOutOfPla
 -- a leaf that is found shows what one before it shows
 abbrev pub IsRepeated : Parts → Wrong → Type 0
 IsRepeated parts at =
-    (x : Kept) × (before : List Kept) × (behind : List Kept) × (leaves_found parts ≡ before ++ (x ∷ behind)) × IsTrue (list_any (λ y. shows_same (shown_by y) (shown_by x)) before) × IsAtNode x (differs (number_of x) 0) at
+    (x : Kept) × (before : List Kept) × (behind : List Kept) × (leaves_found parts ≡ before ++ (x ∷ behind)) × IsTrue (list_any (λ y. shows_same (shown_by y) (shown_by x)) before) × IsAtNode x (differs (inode_number_of x) 0) at
 
 -- a committed leaf has the key and the place of one before it; the number in its key is wanted
 abbrev pub IsCommittedTwice : Parts → Wrong → Type 0
@@ -170,7 +170,7 @@ IsWrongInTree contents master parts at =
     IsWrongNode parts at
     ⊎ (IsCommittedTwice parts at
     ⊎ (IsRepeated parts at
-    ⊎ (((x : Kept) × IsOneOf x (recovered_of parts).kept × IsAtNode x (differs (number_of x) 0) at × IsWrongThere contents parts x)
+    ⊎ (((x : Kept) × IsOneOf x (recovered_of parts).kept × IsAtNode x (differs (inode_number_of x) 0) at × IsWrongThere contents parts x)
     ⊎ (((leaf : Leaf) × IsOneOf leaf (empty_names parts) × (at ≡ record { lnum = leaf.lnum; offs = leaf.offs; misfit = differs 0 0 }))
     ⊎ ((inode_at (tree_found parts) 1 ≡ None) × (at ≡ record { lnum = master.root_lnum; offs = master.root_offs; misfit = differs 1 0 }))))))
 

@@ -9,7 +9,7 @@ use Rattle.small_areas.specs.declared.placed_master.PlacedMaster.{PlacedMaster}
 use Rattle.bud_log.specs.Log.{references_of}
 use Rattle.bud_log.specs.LogText.{LogText}
 use Rattle.index_media.specs.PlacedRow.{PlacedRow}
-use Rattle.journal_scan.specs.Journal.{BudRead, copies_in, nodes_in}
+use Rattle.journal_scan.specs.Journal.{BudRead, copies_in, journal_nodes_in}
 use Rattle.leaf_map.specs.Parts.{Committed, Named, Parts}
 
 -- Contents as a volume has them: bytes in each LEB, and in those of the geometry as many as it says. The volume may have more LEBs: no rule asks
@@ -31,16 +31,16 @@ pub record Image : Type 0 where
   pub listed : List ℕ
 
 -- a reference, as recovery takes it
-abbrev pub named_by : RefNode → Named
-named_by node = record { head = head_number node.head; lnum = node.lnum; from = node.offs }
+abbrev pub named_by_ref_node : RefNode → Named
+named_by_ref_node node = record { head = head_number node.head; lnum = node.lnum; from = node.offs }
 
 -- what a mount has read of such an image
 abbrev pub parts_of : Image → Parts
 parts_of image = record {
   highest = image.latest.master.highest_inum;
   committed = image.committed;
-  named = map named_by (references_of image.log);
-  nodes = nodes_in image.buds;
+  named = map named_by_ref_node (references_of image.log);
+  nodes = journal_nodes_in image.buds;
   copies = copies_in image.buds;
   listed = image.listed;
 }

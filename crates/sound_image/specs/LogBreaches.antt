@@ -11,7 +11,7 @@ use Rattle.leb_scan.specs.declared.tail.Tail.TheVariants.{Torn}
 use Rattle.small_areas.specs.Addresses.{in_area, in_leb, past_limit}
 use Rattle.small_areas.specs.declared.misplaced.Misplaced.{Misplaced}
 use Rattle.bud_log.specs.Log.{IsLogLeb, Stops}
-use Rattle.bud_log.specs.LogText.{LogText, IsTextOf, IsReferenceAt, BeginsCommit, begins_with, start_of}
+use Rattle.bud_log.specs.LogText.{LogText, IsLogTextOf, IsReferenceAt, BeginsCommit, begins_with, start_of}
 use Rattle.bud_log.specs.Writing.{IsAmong, IsChain}
 use Rattle.sound_image.specs.Log.{ends_in_start}
 use Rattle.sound_image.specs.Wrong.{IsFirstOr, IsFirstWrong, IsOneOf, Wrong, differs, type_byte}
@@ -19,7 +19,7 @@ use Rattle.sound_image.specs.Wrong.{IsFirstOr, IsFirstWrong, IsOneOf, Wrong, dif
 -- first: the log begins with no commit start, or with that of another commit
 pub record LacksItsStart (contents : ℕ → List ℕ) (master : Master) (at : Wrong) : Type 0 where
   pub text : LogText
-  pub is_text : IsTextOf (contents master.log_lnum) master.log_lnum text
+  pub is_text : IsLogTextOf (contents master.log_lnum) master.log_lnum text
   pub lnum : at.lnum ≡ master.log_lnum
   pub offs : at.offs ≡ 0
   pub wrong : ((start_of (begins_with text.nodes) ≡ None) × (at.misfit ≡ differs 10 (type_byte (contents master.log_lnum) 0)))
@@ -84,7 +84,7 @@ pub record LooksNewer (contents : ℕ → List ℕ) (geo : RawGeometry) (start :
   pub in_log : IsLogLeb geo at.lnum
   pub other : IsAmong at.lnum texts → ⊥
   pub text : LogText
-  pub is_text : IsTextOf (contents at.lnum) at.lnum text
+  pub is_text : IsLogTextOf (contents at.lnum) at.lnum text
   pub found : Found
   pub begins : begins_with text.nodes ≡ Some found
   pub newer : start < found.sqnum

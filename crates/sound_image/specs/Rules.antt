@@ -33,20 +33,20 @@ rule_number Tree = 11
 rule_number Links = 12
 
 -- the contents meet a rule, if they say this
-abbrev pub Meets : (ℕ → List ℕ) → Image → Rule → Type 0
-Meets contents image Superblock = HasSuperblock contents image.geo
-Meets contents image Masters = HasMasters contents image.geo image.latest
-Meets contents image Properties = HasProperties contents image.geo image.latest.master image.props
-Meets contents image Index = HasIndex contents image.geo image.latest.master image.props image.placed
-Meets contents image Log = HasLog contents image.geo image.latest.master image.log
-Meets contents image Buds = HasBuds contents (buds_of (references_of image.log)) image.buds
-Meets contents image Leaves = HasLeaves contents image
-Meets contents image Sums = HasSums image.geo image.props image.placed
-Meets contents image Ends = HasErasedEnds contents image.geo image.latest.master image.props image.log
-Meets contents image Orphans = HasOrphanLists contents image.geo
-Meets contents image Tree = HasTree contents (parts_of image)
-Meets contents image Links = HasLinks (tree_found (parts_of image))
+abbrev pub MeetsRule : (ℕ → List ℕ) → Image → Rule → Type 0
+MeetsRule contents image Superblock = HasSuperblock contents image.geo
+MeetsRule contents image Masters = HasMasters contents image.geo image.latest
+MeetsRule contents image Properties = HasProperties contents image.geo image.latest.master image.props
+MeetsRule contents image Index = HasIndex contents image.geo image.latest.master image.props image.placed
+MeetsRule contents image Log = HasLog contents image.geo image.latest.master image.log
+MeetsRule contents image Buds = HasBuds contents (buds_of (references_of image.log)) image.buds
+MeetsRule contents image Leaves = HasLeaves contents image
+MeetsRule contents image Sums = HasSums image.geo image.props image.placed
+MeetsRule contents image Ends = HasErasedEnds contents image.geo image.latest.master image.props image.log
+MeetsRule contents image Orphans = HasOrphanLists contents image.geo
+MeetsRule contents image Tree = HasTree contents (parts_of image)
+MeetsRule contents image Links = HasLinks (tree_found (parts_of image))
 
 -- and all rules before it
 abbrev pub MeetsBefore : (ℕ → List ℕ) → Image → Rule → Type 0
-MeetsBefore contents image rule = (other : Rule) → rule_number other < rule_number rule → Meets contents image other
+MeetsBefore contents image rule = (other : Rule) → rule_number other < rule_number rule → MeetsRule contents image other

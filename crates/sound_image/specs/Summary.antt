@@ -9,7 +9,7 @@ use Rattle.fs_model.specs.Path.{is_dir, is_empty}
 use Rattle.fs_model.specs.declared.inode.Inode.{Inode}
 use Rattle.fs_model.specs.declared.space.Space.{Space}
 use Rattle.leaf_map.specs.Recovered.{tree_found}
-use Rattle.leaf_map.specs.SpaceFound.{MainArea, space_found}
+use Rattle.leaf_map.specs.SpaceFound.{MainAreaFound, space_found}
 use Rattle.sound_image.specs.Image.{Image, parts_of}
 
 -- whether no bud holds a node, padding aside
@@ -17,7 +17,7 @@ abbrev pub is_clean : Image → Bool
 is_clean image = list_all (λ read. is_empty read.nodes) image.buds
 
 -- the main LEBs, those in which nodes of the committed index stand, and its weight
-abbrev pub main_area_of : Image → MainArea
+abbrev pub main_area_of : Image → MainAreaFound
 main_area_of image = record {
   lebs = range_with_len (main_first image.geo) (main_lebs image.geo);
   indexed = lebs_of image.placed;

@@ -95,8 +95,8 @@ abbrev pub least_latest : PlacedMaster
 least_latest = record { lnum = 1; offs = 0; sqnum = 4; master = least_master }
 
 -- the inode of the root directory, at the start of LEB 10
-abbrev pub root_inode : InoNode
-root_inode = record {
+abbrev pub sample_root_inode : InoNode
+sample_root_inode = record {
   ino = 1;
   size = 160;
   atime = 0;
@@ -113,21 +113,21 @@ root_inode = record {
   bytes = [];
 }
 
-abbrev pub root_leaf : Leaf
-root_leaf = record { key = Ino 1; lnum = 10; offs = 0; len = 160 }
+abbrev pub sample_root_leaf : Leaf
+sample_root_leaf = record { key = Ino 1; lnum = 10; offs = 0; len = 160 }
 
-abbrev pub root_placed : Placed
-root_placed = record { node = inode root_inode; sqnum = 2; group = 0; lnum = 10; offs = 0; len = 160 }
+abbrev pub sample_root_placed : Placed
+sample_root_placed = record { node = inode sample_root_inode; sqnum = 2; group = 0; lnum = 10; offs = 0; len = 160 }
 
 abbrev pub root_kept : Kept
-root_kept = record { leaf = root_leaf; sqnum = 2; node = inode root_inode }
+root_kept = record { leaf = sample_root_leaf; sqnum = 2; node = inode sample_root_inode }
 
 -- the index's one node, at the start of LEB 11
 abbrev pub least_branch : Branch
 least_branch = root_branch least_master (Ino 1)
 
 abbrev pub least_index : PlacedRow
-least_index = node_at least_branch (leaf_at root_leaf ended) ended
+least_index = node_at least_branch (leaf_at sample_root_leaf ended) ended
 
 abbrev pub least_props : List Lprop
 least_props = record { free = 16208; dirty = 16; index = false } ∷ record { free = 16336; dirty = 0; index = true } ∷ []
@@ -141,7 +141,7 @@ least_image log = record {
   placed = least_index;
   log = log;
   buds = [];
-  committed = record { leaf = root_leaf; found = Some root_placed } ∷ [];
+  committed = record { leaf = sample_root_leaf; found = Some sample_root_placed } ∷ [];
   listed = [];
 }
 
@@ -160,8 +160,8 @@ pub record IsLeastWith (contents : ℕ → List ℕ) (props : List Lprop) (cmt_n
   pub begins : BeginsLeast contents least_super least_latest
   pub log : IsFreshLog contents least_geometry 3 1 cmt_no
   pub properties : HasProperties contents least_geometry least_master props
-  pub leaf : IsPlacedIn contents root_placed
-  pub index : IsIndexNodeAt contents least_branch (record { level = 0; branches = branch_to root_leaf ∷ [] })
+  pub leaf : IsPlacedIn contents sample_root_placed
+  pub index : IsIndexNodeAt contents least_branch (record { level = 0; branches = branch_to sample_root_leaf ∷ [] })
 
 -- of each main LEB eight dirty bytes more are told than there are
 abbrev pub dirtier_props : List Lprop
@@ -183,7 +183,7 @@ pub record LacksItsLeaf (contents : ℕ → List ℕ) : Type 0 where
   pub properties : HasProperties contents least_geometry least_master least_props
   pub orphans : IsTrue (is_blank (contents 9))
   pub leaf : IsTrue (is_blank (contents 10))
-  pub index : IsIndexNodeAt contents least_branch (record { level = 0; branches = branch_to root_leaf ∷ [] })
+  pub index : IsIndexNodeAt contents least_branch (record { level = 0; branches = branch_to sample_root_leaf ∷ [] })
 
 -- contents like it, in which a byte is written among the free ones of LEB 10
 pub record HasWrittenEnd (contents : ℕ → List ℕ) : Type 0 where
@@ -200,7 +200,7 @@ pub record HasStartForOrphans (contents : ℕ → List ℕ) : Type 0 where
 
 -- its leaf, if inode 1 is a file
 abbrev pub file_placed : Placed
-file_placed = record root_placed { node = inode (record root_inode { mode = 0o100755 }) }
+file_placed = record sample_root_placed { node = inode (record sample_root_inode { mode = 0o100755 }) }
 
 -- contents like it, in which inode 1 is a file
 pub record HasRootFile (contents : ℕ → List ℕ) : Type 0 where
@@ -210,11 +210,11 @@ pub record HasRootFile (contents : ℕ → List ℕ) : Type 0 where
   pub orphans : IsTrue (is_blank (contents 9))
   pub leaf : IsPlacedIn contents file_placed
   pub behind : IsTrue (is_blank (drop 160 (contents 10)))
-  pub index : IsIndexNodeAt contents least_branch (record { level = 0; branches = branch_to root_leaf ∷ [] })
+  pub index : IsIndexNodeAt contents least_branch (record { level = 0; branches = branch_to sample_root_leaf ∷ [] })
 
 -- a file's inode, one link of which is told
 abbrev pub lone_inode : InoNode
-lone_inode = record root_inode { ino = 65; size = 0; nlink = 1; mode = 0o100644 }
+lone_inode = record sample_root_inode { ino = 65; size = 0; nlink = 1; mode = 0o100644 }
 
 abbrev pub lone_leaf : Leaf
 lone_leaf = record { key = Ino 65; lnum = 10; offs = 160; len = 160 }
@@ -230,7 +230,7 @@ abbrev pub lone_branch : Branch
 lone_branch = root_branch lone_latest.master (Ino 1)
 
 abbrev pub lone_index : PlacedRow
-lone_index = node_at lone_branch (leaf_at root_leaf (leaf_at lone_leaf ended)) ended
+lone_index = node_at lone_branch (leaf_at sample_root_leaf (leaf_at lone_leaf ended)) ended
 
 abbrev pub lone_props : List Lprop
 lone_props = record { free = 16064; dirty = 0; index = false } ∷ record { free = 16312; dirty = 0; index = true } ∷ []
@@ -241,16 +241,16 @@ pub record HasLoneFile (contents : ℕ → List ℕ) : Type 0 where
   pub log : IsFreshLog contents least_geometry 3 1 0
   pub properties : HasProperties contents least_geometry lone_latest.master lone_props
   pub orphans : IsTrue (is_blank (contents 9))
-  pub root : IsPlacedIn contents root_placed
+  pub root : IsPlacedIn contents sample_root_placed
   pub file : IsPlacedIn contents lone_placed
   pub behind : IsTrue (is_blank (drop 320 (contents 10)))
-  pub index : IsIndexNodeAt contents lone_branch (record { level = 0; branches = branch_to root_leaf ∷ branch_to lone_leaf ∷ [] })
+  pub index : IsIndexNodeAt contents lone_branch (record { level = 0; branches = branch_to sample_root_leaf ∷ branch_to lone_leaf ∷ [] })
 
 -- contents whose log names LEB 10 as a bud, in which the start of a commit stands
 pub record HasStartInBud (contents : ℕ → List ℕ) (log : List LogText) : Type 0 where
   pub begins : BeginsLeast contents least_super least_latest
   pub properties : HasProperties contents least_geometry least_master least_props
-  pub index : IsIndexNodeAt contents least_branch (record { level = 0; branches = branch_to root_leaf ∷ [] })
+  pub index : IsIndexNodeAt contents least_branch (record { level = 0; branches = branch_to sample_root_leaf ∷ [] })
   pub has_log : HasLog contents least_geometry least_master log
   pub named : references_of log ≡ record { lnum = 10; offs = 0; head = Base } ∷ []
   pub start : BeginsAlone (contents 10) (written 1 0 (commit_start (record { cmt_no = 0 })))
@@ -263,6 +263,6 @@ pub record IsLeastVolume (contents : ℕ → List ℕ) : Type 0 where
   pub log : IsFreshLog contents least_geometry 3 1 0
   pub properties : HasProperties contents least_geometry least_master least_props
   pub orphans : IsTrue (is_blank (contents 9))
-  pub leaf : IsPlacedIn contents root_placed
+  pub leaf : IsPlacedIn contents sample_root_placed
   pub behind : IsTrue (is_blank (drop 160 (contents 10)))
-  pub index : IsIndexNodeAt contents least_branch (record { level = 0; branches = branch_to root_leaf ∷ [] })
+  pub index : IsIndexNodeAt contents least_branch (record { level = 0; branches = branch_to sample_root_leaf ∷ [] })

@@ -2,8 +2,8 @@
 use Rattle.std.proofs.Common.{◌≡◌, ◌⊎◌, List, [], ◌∷◌, ◌++◌, ap, sym, ◌∙◌, inl, inr, refl, append_assoc}
 use Rattle.sound_image.specs.Wrong.{IsOneOf}
 
-pub head_of : {X : Type 0} (x y : X) (xs ys : List X) → x ∷ xs ≡ y ∷ ys → (x ≡ y) × (xs ≡ ys)
-head_of x y xs ys h = (cc, cc)
+pub first_of_equal : {X : Type 0} (x y : X) (xs ys : List X) → x ∷ xs ≡ y ∷ ys → (x ≡ y) × (xs ≡ ys)
+first_of_equal x y xs ys h = (cc, cc)
 
 -- an element is behind another, or that one
 pub one_behind : {X : Type 0} (x y : X) (xs : List X) → IsOneOf x xs → IsOneOf x (y ∷ xs)
@@ -13,8 +13,8 @@ pub one_first : {X : Type 0} (x y : X) (xs : List X) → x ≡ y → IsOneOf x (
 one_first x y xs e = ([], xs, ap (λ z. z ∷ xs) (sym e))
 
 pub first_or_behind : {X : Type 0} (x y : X) (xs : List X) → IsOneOf x (y ∷ xs) → (x ≡ y) ⊎ IsOneOf x xs
-first_or_behind x y xs ([], behind, e) = inl (sym (head_of y x xs behind e).0)
-first_or_behind x y xs (z ∷ before, behind, e) = inr (before, behind, (head_of y z xs (before ++ x ∷ behind) e).1)
+first_or_behind x y xs ([], behind, e) = inl (sym (first_of_equal y x xs behind e).0)
+first_or_behind x y xs (z ∷ before, behind, e) = inr (before, behind, (first_of_equal y z xs (before ++ x ∷ behind) e).1)
 
 pub one_of_none : {X : Type 0} (x : X) → IsOneOf x [] → ⊥
 one_of_none x ([], behind, e) = absurd cc
@@ -24,8 +24,8 @@ one_of_none x (z ∷ before, behind, e) = absurd cc
 pub in_front : {X : Type 0} (x y : X) (xs : List X) → IsOneOf x xs → IsOneOf x (xs ++ y ∷ [])
 in_front x y xs (before, behind, e) = (before, behind ++ y ∷ [], ap (λ zs. zs ++ y ∷ []) e ∙ append_assoc before (x ∷ behind) (y ∷ []))
 
-pub at_end : {X : Type 0} (y : X) (xs : List X) → IsOneOf y (xs ++ y ∷ [])
-at_end y xs = (xs, [], refl)
+pub is_one_at_end : {X : Type 0} (y : X) (xs : List X) → IsOneOf y (xs ++ y ∷ [])
+is_one_at_end y xs = (xs, [], refl)
 
 pub front_or_end : {X : Type 0} (x y : X) (xs : List X) → IsOneOf x (xs ++ y ∷ []) → IsOneOf x xs ⊎ (x ≡ y)
 front_or_end x y [] h = elim (first_or_behind x y [] h) [ inl e ↦ inr e | inr more ↦ absurd (one_of_none x more) ]

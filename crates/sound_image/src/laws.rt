@@ -32,7 +32,7 @@ ghost use Rattle.index_tree.specs.declared.leaf.Leaf.{Leaf};
 ghost use Rattle.index_media.specs.PlacedRow.{PlacedRow};
 ghost use Rattle.fs_model.specs.Proper.{IsProper, has_kind, is_sound_entry, is_sound_inode};
 ghost use Rattle.fs_model.specs.declared.inode.Kind.TheVariants.{Dir};
-ghost use Rattle.journal_scan.specs.Journal.{BudRead, IsBudRead, IsReadable, copies_in, nodes_in};
+ghost use Rattle.journal_scan.specs.Journal.{BudRead, IsBudRead, IsReadable, copies_in, journal_nodes_in};
 ghost use Rattle.journal_scan.specs.Places.{HavePlaces, named_by};
 ghost use Rattle.leaf_map.specs.Kept.{Placed, shown};
 ghost use Rattle.leaf_map.specs.LeafMap.{IsLeafMap};
@@ -55,7 +55,7 @@ ghost use Rattle.sound_image.specs.Masters.{HasMasters};
 ghost use Rattle.sound_image.specs.Mount.{IsCommittedIndex, IsReplayOf};
 ghost use Rattle.sound_image.specs.OrphanLists.{HasOrphanLists, HasOrphanNodes};
 ghost use Rattle.sound_image.specs.Properties.{HasProperties};
-ghost use Rattle.sound_image.specs.Rules.{Meets};
+ghost use Rattle.sound_image.specs.Rules.{MeetsRule};
 ghost use Rattle.sound_image.specs.Sound.{SoundImage};
 ghost use Rattle.sound_image.specs.Space.{HasSums};
 ghost use Rattle.sound_image.specs.Summary.{is_clean, space_of_image, tree_of_image};
@@ -106,8 +106,8 @@ pub fn contents_say_one_thing()
 /// A sound image meets each rule, and contents that meet each rule are one. Of its tree, inode 1 is a directory, entries and
 /// inodes fit one another, directories hang together, and each other inode has as many links as names.
 pub fn the_tree_of_a_sound_image_hangs_together()
-    ensures rules { (contents : ℕ → List ℕ) (image : Image) (rule : ARule) → SoundImage contents image → Meets contents image rule }
-    ensures all { (contents : ℕ → List ℕ) (image : Image) → ((rule : ARule) → Meets contents image rule) → SoundImage contents image }
+    ensures rules { (contents : ℕ → List ℕ) (image : Image) (rule : ARule) → SoundImage contents image → MeetsRule contents image rule }
+    ensures all { (contents : ℕ → List ℕ) (image : Image) → ((rule : ARule) → MeetsRule contents image rule) → SoundImage contents image }
     ensures root { (contents : ℕ → List ℕ) (image : Image) → SoundImage contents image → IsTrue (has_kind (tree_found (parts_of image)) 1 Dir) }
     ensures entries { (contents : ℕ → List ℕ) (image : Image) → SoundImage contents image
         → All (λ e. IsTrue (is_sound_entry (tree_found (parts_of image)) e)) (values_of (tree_found (parts_of image)).entries) }
@@ -167,7 +167,7 @@ pub fn the_least_image_is_sound()
 /// or features are told of the same contents.
 pub fn a_first_breach_is_one()
     ensures rule { (contents : ℕ → List ℕ) (image : Image) (rule : ARule) (at : Wrong) → ((k : ℕ) → IsBytes (contents k))
-        → IsBroken contents image rule at → Meets contents image rule → ⊥ }
+        → IsBroken contents image rule at → MeetsRule contents image rule → ⊥ }
     ensures sound { (contents : ℕ → List ℕ) (image : Image) (a : ABreach) → ((k : ℕ) → IsBytes (contents k)) → SoundImage contents image → IsFirstBreach contents a → ⊥ }
     ensures one { (contents : ℕ → List ℕ) (a b : ABreach) → ((k : ℕ) → IsBytes (contents k)) → IsFirstBreach contents a → IsFirstBreach contents b → a ≡ b }
 {
@@ -194,7 +194,7 @@ pub fn a_mount_can_read_a_sound_image()
 /// What was read of an image stands there: the nodes and the copies of its buds stand in their LEBs, whole. They are nodes of the
 /// grammar, and so is what was found at the places of committed leaves.
 pub fn what_was_read_stands()
-    ensures nodes { (contents : ℕ → List ℕ) (buds : List HeadAt) (reads : List BudRead) → HasBuds contents buds reads → AllByRecursion (IsPlacedIn contents) (nodes_in reads) }
+    ensures nodes { (contents : ℕ → List ℕ) (buds : List HeadAt) (reads : List BudRead) → HasBuds contents buds reads → AllByRecursion (IsPlacedIn contents) (journal_nodes_in reads) }
     ensures copies { (contents : ℕ → List ℕ) (buds : List HeadAt) (reads : List BudRead) → HasBuds contents buds reads → AllByRecursion (IsPlacedIn contents) (copies_in reads) }
     ensures grammar { (contents : ℕ → List ℕ) (nodes : List Placed) → AllByRecursion (IsPlacedIn contents) nodes → AllByRecursion (λ (x : Placed). IsLeaf x.node) nodes }
     ensures committed { (contents : ℕ → List ℕ) (leaves : List Leaf) (committed : List Committed) → AreCommitted contents leaves committed → AllByRecursion HasGrammar committed }

@@ -17,16 +17,16 @@ pub record BookState : Type 0 where
   pub grant : Option Grant
 
 -- what the next group may take
-abbrev pub group_need : Option Grant → Need
-group_need None = nothing
-group_need (Some grant) = record { credits = 0; bytes = grant.bytes; nodes = grant.nodes; class = Removal }
+abbrev pub next_group_need : Option Grant → Need
+next_group_need None = nothing
+next_group_need (Some grant) = record { credits = 0; bytes = grant.bytes; nodes = grant.nodes; class = Removal }
 
 -- there is room for all that was granted: a page for each credit, and the next group
 pub record AreGrantsCovered (book : BookState) : Type 0 where
-  pub room : HasRoom book.geo book.space (group_need book.grant)
+  pub room : HasRoom book.geo book.space (next_group_need book.grant)
 
 -- the two sides of the admission test
-pub record IsRefused (book : BookState) (need : Need) (sides : NoSpace) : Type 0 where
+pub record IsNeedRefused (book : BookState) (need : Need) (sides : NoSpace) : Type 0 where
   pub need_is : sides.need ≡ needed book.space need
   pub room_is : sides.room ≡ room_for book.geo book.space need
 

@@ -36,7 +36,7 @@ impl Book {
     ghost use Rattle.fs_model.specs.Cover.{index_lebs};
     ghost use Rattle.fs_model.specs.Settled.{IsCovered};
     ghost use Rattle.space_sums.specs.Spaces.{HasRoom};
-    ghost use Rattle.space_budget.specs.Books.{AreGrantsCovered, IsPaidByCredit, IsPaidByGrant, IsRefused, after_admission, after_commit, after_group, after_move, after_page, after_return, after_sync};
+    ghost use Rattle.space_budget.specs.Books.{AreGrantsCovered, IsPaidByCredit, IsPaidByGrant, IsNeedRefused, after_admission, after_commit, after_group, after_move, after_page, after_return, after_sync};
 
     /// A book of these numbers, in which nothing is granted to a group.
     pub fn new(geo: Geometry, space: Space) -> Book
@@ -57,7 +57,7 @@ impl Book {
         requires modest { IsModest need.now }
         ensures exactly { IsOk result ↔ HasRoom self.old.geo self.old.space need.now }
         ensures ok { OnOk result (self.new ≡ after_admission self.old need.now) }
-        ensures err { IfErr result (λ sides. (self.new ≡ self.old) × IsRefused self.old need.now sides) }
+        ensures err { IfErr result (λ sides. (self.new ≡ self.old) × IsNeedRefused self.old need.now sides) }
         ensures covered { OnOk result (AreGrantsCovered self.new) }
     {
         what_was_admitted_can_be_put();

@@ -15,7 +15,7 @@ use Rattle.sound_image.specs.Wrong.{IsFirstWrong, differs}
 use Rattle.sound_image.specs.declared.rule.Rule.TheVariants as rules
 use Rattle.sound_image.specs.declared.breach.Breach.TheVariants.{Damaged}
 use Rattle.image_check.specs.Told.{IsBreachOf}
-use Rattle.space_check.specs.Sums.{AreAdded, AreSums, IsFirstOther, ListsIndex, bytes_in}
+use Rattle.space_check.specs.Sums.{AreAdded, AreSums, IsFirstOther, ListsIndex, node_bytes_in}
 use Rattle.space_check.proofs.Added.{bytes_append, bytes_permuted}
 use Rattle.image_check.specs.FirstLaws.{first_of_lebs}
 use Rattle.space_check.proofs.Places.{in_main, of_main, one_prop, some_inside, there_is}
@@ -45,11 +45,11 @@ sums_made first props leaves nodes start then sums e a b =
     }
 
 -- what leaves and nodes take is what the committed index does
-pub committed : (placed : PlacedRow) (leaves : List Leaf) (nodes : List Branch) (lnum : ℕ) → ListsIndex placed leaves nodes → bytes_in lnum (map branch_to leaves) + bytes_in lnum nodes ≡ committed_bytes placed lnum
+pub committed : (placed : PlacedRow) (leaves : List Leaf) (nodes : List Branch) (lnum : ℕ) → ListsIndex placed leaves nodes → node_bytes_in lnum (map branch_to leaves) + node_bytes_in lnum nodes ≡ committed_bytes placed lnum
 committed placed leaves nodes lnum h =
     let a = bytes_append lnum (all_nodes placed) (map branch_to (leaves_in (plain placed))) in
     let b = bytes_permuted lnum (all_nodes placed) nodes h.nodes_are in
-    let c = ap (λ (xs : List Leaf). bytes_in lnum (map branch_to xs)) h.leaves_are in
+    let c = ap (λ (xs : List Leaf). node_bytes_in lnum (map branch_to xs)) h.leaves_are in
     omega (arith, a, b, c)
 
 -- the sum of a LEB is what the rule speaks of

@@ -12,18 +12,18 @@ pub record ListsIndex (placed : PlacedRow) (leaves : List Leaf) (nodes : List Br
   pub nodes_are : IsPermutation (all_nodes placed) nodes
 
 -- the bytes that nodes take of a LEB, each rounded up to 8
-abbrev pub bytes_in : ℕ → List Branch → ℕ
-bytes_in lnum branches = bytes_taken (filter (λ (branch : Branch). branch.lnum == lnum) branches)
+abbrev pub node_bytes_in : ℕ → List Branch → ℕ
+node_bytes_in lnum branches = bytes_taken (filter (λ (branch : Branch). branch.lnum == lnum) branches)
 
 -- to the sums of LEBs, from the first main LEB on, the bytes were added that these nodes take of each
 pub record AreAdded (first : ℕ) (old new : List ℕ) (branches : List Branch) : Type 0 where
   pub len : length new ≡ length old
-  pub more : (at : ℕ) → at < length old → get_or new at 0 ≡ get_or old at 0 + bytes_in (first + at) branches
+  pub more : (at : ℕ) → at < length old → get_or new at 0 ≡ get_or old at 0 + node_bytes_in (first + at) branches
 
 -- of each main LEB its free and dirty bytes, and what leaves and nodes take of it
 pub record AreSums (first : ℕ) (props : List Lprop) (leaves : List Leaf) (nodes : List Branch) (sums : List ℕ) : Type 0 where
   pub len : length sums ≡ length props
-  pub is : (at : ℕ) (prop : Lprop) → slice_get props at ≡ Some prop → get_or sums at 0 ≡ prop.free + prop.dirty + (bytes_in (first + at) (map branch_to leaves) + bytes_in (first + at) nodes)
+  pub is : (at : ℕ) (prop : Lprop) → slice_get props at ≡ Some prop → get_or sums at 0 ≡ prop.free + prop.dirty + (node_bytes_in (first + at) (map branch_to leaves) + node_bytes_in (first + at) nodes)
 
 -- the sum at this place is another than all bytes of a LEB, and none before it is
 pub record IsFirstOther (whole : ℕ) (sums : List ℕ) (at : ℕ) : Type 0 where

@@ -6,7 +6,7 @@ use Rattle.std.specs.Option.{option_map}
 use Rattle.leaf_map.specs.Kept.{Kept, Placed, shown, shown_by}
 use Rattle.leaf_map.specs.LeafMap.{shows_same}
 use Rattle.store_model.specs.Events.{begin, end_commit, in_next, new_bud, offer, offered, open_leb, opened_for, start, write_index}
-use Rattle.store_model.specs.Fits.{Faced, faced_now, IsLeft, next_lists}
+use Rattle.store_model.specs.Fits.{Faced, faced_now, IsLeafLeft, next_lists}
 use Rattle.store_model.specs.Heads.{copies_of}
 use Rattle.store_model.specs.Invariant.{AreAccountedFor, faced_later, IsAccountedFor, IsMoved, IsStore, KeepOrphans, OfBoth, OfNext}
 use Rattle.store_model.specs.Legal.{CanBegin, CanStart, IfRunning, IsLeafOf}
@@ -21,7 +21,7 @@ pub record FollowsFor (m k : Store) (f g : Faced) (x : Kept) : Type 0 where
   pub live : k.live ≡ m.live
   pub held : k.held ≡ m.held
   pub moved : IsMoved m.moving f x → IsMoved k.moving g x
-  pub left : IsLeft f x → IsLeft g x
+  pub left : IsLeafLeft f x → IsLeafLeft g x
 
 pub follows : (m k : Store) (f g : Faced) (x : Kept) → FollowsFor m k f g x → IsAccountedFor m f x → IsAccountedFor k g x
 follows m k f g x s (inl live) = inl (subst (λ (xs : List Kept). IsLeafOf xs x) (sym s.live) live)

@@ -20,10 +20,10 @@ use Rattle.fs_model.specs.Recovery.{Head}
 use Rattle.fs_laws.specs.Orders.{bytes_same}
 use Rattle.leaf_map.specs.Kept.{Kept, kept_at, Placed, shown, shown_by}
 use Rattle.leaf_map.specs.LeafMap.{HasKeyOf, IsKeyed, shows_same}
-use Rattle.store_model.specs.Events.{at_copy, Copying, end_at, free_victim, in_next, move}
-use Rattle.store_model.specs.Fits.{AreOfListed, Faced, faced_now, has_copy, IsLeft, IsOfNameless, IsTouchedBy, IsUnset, next_lists}
-use Rattle.store_model.specs.Heads.{copies_of, counts_of, heads_of, less, synced_since, with_copy}
-use Rattle.store_model.specs.Invariant.{AreAccountedFor, AreApart, CameSince, faced_later, HasSince, is_copied, IsAccountedFor, IsMoved, IsSince, IsStore, OfBoth, OfNext}
+use Rattle.store_model.specs.Events.{at_its_copy, Copying, end_at, free_victim, in_next, move}
+use Rattle.store_model.specs.Fits.{AreOfListed, Faced, faced_now, has_copy, IsLeafLeft, IsOfNameless, IsTouchedBy, IsUnset, next_lists}
+use Rattle.store_model.specs.Heads.{copies_of, head_counts, heads_of, less, synced_since, with_copy}
+use Rattle.store_model.specs.Invariant.{AreAccountedFor, AreRolesApart, CameSince, faced_later, HasSince, is_leaf_copied, IsAccountedFor, IsMoved, IsSince, IsStore, OfBoth, OfNext}
 use Rattle.store_model.specs.Legal.{CanFree, CanMove, FitHead, IfMoving, IsLeafOf}
 use Rattle.store_model.specs.Store.{At, Bud, Moving, Next, Store}
 use Rattle.store_model.proofs.BackingPuts.{has_last}
@@ -41,7 +41,7 @@ abbrev copies_leaf : Kept → Placed → Bool
 copies_leaf x c = (c.sqnum == x.sqnum) && shows_same (shown_by x) (shown c.node)
 
 -- ---- a victim is freed, once all is synced
-copied_left : (f : Faced) (x : Kept) → get_or f.synced 0 0 ≡ length (copies_of f.view.buds) → is_copied f x ≡ true → has_copy f x ≡ true
+copied_left : (f : Faced) (x : Kept) → get_or f.synced 0 0 ≡ length (copies_of f.view.buds) → is_leaf_copied f x ≡ true → has_copy f x ≡ true
 copied_left f x all h = ap (λ (n : ℕ). list_any (copies_leaf x) (take n (copies_of f.view.buds))) all ∙ ap (list_any (copies_leaf x)) (take_all (length (copies_of f.view.buds)) (copies_of f.view.buds) (omega arith)) ∙ h
 
 free_one : (m : Store) (moving : Moving) (f : Faced) (x : Kept) → m.moving ≡ Some moving → get_or f.synced 0 0 ≡ length (copies_of f.view.buds) → IsAccountedFor m f x → IsAccountedFor (free_victim m (Some moving)) f x
@@ -50,11 +50,11 @@ free_one m moving f x e all (inr (inl held)) = inr (inl held)
 free_one m moving f x e all (inr (inr (inl moved))) = let copied = subst (λ (o : Option Moving). IsMoved o f x) e moved in inr (inr (inr (inl (copied_left f x all copied.1))))
 free_one m moving f x e all (inr (inr (inr left))) = inr (inr (inr left))
 
-counts_since : (m : Store) (next : Next) → m.synced ≡ counts_of m.now.buds → CameSince (copies_of m.now.buds) (copies_of next.view.buds) (get_or m.synced 0 0) → get_or (synced_since m next) 0 0 ≡ length (copies_of next.view.buds)
+counts_since : (m : Store) (next : Next) → m.synced ≡ head_counts m.now.buds → CameSince (copies_of m.now.buds) (copies_of next.view.buds) (get_or m.synced 0 0) → get_or (synced_since m next) 0 0 ≡ length (copies_of next.view.buds)
 counts_since m next all c =
     let long = ap length c.is ∙ length-append c.before (copies_of next.view.buds) in
-    let is : get_or (less (counts_of m.now.buds) (less (counts_of m.now.buds) (counts_of next.view.buds))) 0 0 ≡ length (copies_of m.now.buds) - (length (copies_of m.now.buds) - length (copies_of next.view.buds)) = refl in
-    ap (λ (s : List ℕ). get_or (less s (less (counts_of m.now.buds) (counts_of next.view.buds))) 0 0) all ∙ is ∙ omega (arith, long)
+    let is : get_or (less (head_counts m.now.buds) (less (head_counts m.now.buds) (head_counts next.view.buds))) 0 0 ≡ length (copies_of m.now.buds) - (length (copies_of m.now.buds) - length (copies_of next.view.buds)) = refl in
+    ap (λ (s : List ℕ). get_or (less s (less (head_counts m.now.buds) (head_counts next.view.buds))) 0 0) all ∙ is ∙ omega (arith, long)
 
 pub free_accounted : (m : Store) (moving : Option Moving) → m.moving ≡ moving → CanFree m → HasSince m m.next → OfBoth m (AreAccountedFor m) → OfBoth (free_victim m moving) (AreAccountedFor (free_victim m moving))
 free_accounted m None e can since h = h
@@ -97,7 +97,7 @@ take_more t (suc n) (x ∷ xs) ys h = by (λ g. take_more t n xs ys g) (t x) h
     by rest true h = refl
     by rest false h = rest h
 
-pub left_more : (f g : Faced) (c : Placed) (x : Kept) → HasCopyMore f g c → IsLeft f x → IsLeft g x
+pub left_more : (f g : Faced) (c : Placed) (x : Kept) → HasCopyMore f g c → IsLeafLeft f x → IsLeafLeft g x
 left_more f g c x same (inl copy) =
     inl (ap (λ (n : ℕ). list_any (copies_leaf x) (take n (copies_of g.view.buds))) same.synced ∙ ap (λ (cs : List Placed). list_any (copies_leaf x) (take (get_or f.synced 0 0) cs)) same.copies
     ∙ take_more (copies_leaf x) (get_or f.synced 0 0) (copies_of f.view.buds) (c ∷ []) copy)
@@ -107,7 +107,7 @@ left_more f g c x same (inr (inr (of, none))) = inr (inr (subst (λ (ls : List (
 moved_more : (f g : Faced) (c : Placed) (x : Kept) (moving : Option Moving) → HasCopyMore f g c → IsMoved moving f x → IsMoved moving g x
 moved_more f g c x None same h = absurd h
 moved_more f g c x (Some moving) same h =
-    (h.0, ap (list_any (copies_leaf x)) same.copies ∙ list_any-append (copies_leaf x) (copies_of f.view.buds) (c ∷ []) ∙ or_left (is_copied f x) (list_any (copies_leaf x) (c ∷ [])) h.1)
+    (h.0, ap (list_any (copies_leaf x)) same.copies ∙ list_any-append (copies_leaf x) (copies_of f.view.buds) (c ∷ []) ∙ or_left (is_leaf_copied f x) (list_any (copies_leaf x) (c ∷ [])) h.1)
 
 -- a leaf shows what it shows
 shows_self : (l : Leaf) (s : Option Change) → HasKeyOf l s → shows_same s s ≡ true
@@ -119,7 +119,7 @@ shows_self l (Some (CutBlocks ino old new)) h = absurd h
 shows_self l (Some (DropInode ino)) h = absurd h
 shows_self l None h = absurd h
 
-new_copied : (m : Store) (c : Copying) (g : Faced) (x : Kept) (copies : List Placed) → CanMove m c → x ≡ c.leaf → HasKeyOf x.leaf (shown_by x) → copies_of g.view.buds ≡ copies ++ c.copy ∷ [] → is_copied g x ≡ true
+new_copied : (m : Store) (c : Copying) (g : Faced) (x : Kept) (copies : List Placed) → CanMove m c → x ≡ c.leaf → HasKeyOf x.leaf (shown_by x) → copies_of g.view.buds ≡ copies ++ c.copy ∷ [] → is_leaf_copied g x ≡ true
 new_copied m c g x copies can same keyed added =
     let node : c.copy.node ≡ x.node = can.node_is ∙ sym (ap (λ (y : Kept). y.node) same) in
     let sqnum : c.copy.sqnum ≡ x.sqnum = can.sqnum ∙ sym (ap (λ (y : Kept). y.sqnum) same) in
@@ -128,9 +128,9 @@ new_copied m c g x copies can same keyed added =
     ap (list_any (copies_leaf x)) added ∙ list_any-append (copies_leaf x) copies (c.copy ∷ []) ∙ or_right (list_any (copies_leaf x) copies) (list_any (copies_leaf x) (c.copy ∷ [])) (or_left (copies_leaf x c.copy) false is)
 
 -- another live leaf stays where it is
-live_stays : (c : Copying) (xs : List Kept) (x : Kept) → at_copy c x ≡ x → IsLeafOf xs x → IsLeafOf (map (at_copy c) xs) x
+live_stays : (c : Copying) (xs : List Kept) (x : Kept) → at_its_copy c x ≡ x → IsLeafOf xs x → IsLeafOf (map (at_its_copy c) xs) x
 live_stays c [] x same h = absurd h
-live_stays c (y ∷ xs) x same (inl e) = inl (ap (at_copy c) e ∙ same)
+live_stays c (y ∷ xs) x same (inl e) = inl (ap (at_its_copy c) e ∙ same)
 live_stays c (y ∷ xs) x same (inr h) = inr (live_stays c xs x same h)
 
 move_one : (m : Store) (c : Copying) (f g : Faced) (x : Kept) → CanMove m c → AreDistinct (map (λ x. x.leaf) m.live) → AllByRecursion IsKeyed m.live → HasCopyMore f g c.copy → IsAccountedFor m f x → IsAccountedFor (move c m) g x
@@ -158,7 +158,7 @@ copied_heads : (c : Placed) (buds : List Bud) (synced : List ℕ) → heads_of (
 copied_heads c buds synced = rw (groups_copied 1 c buds, groups_copied 2 c buds) refl
 
 -- what either master leads to gets the copy
-pub copied_now : (m : Store) (c : Copying) (at : At) → AreApart m → end_at m.ends 0 ≡ Some at → HasCopyMore (faced_now m) (faced_now (move c m)) c.copy
+pub copied_now : (m : Store) (c : Copying) (at : At) → AreRolesApart m → end_at m.ends 0 ≡ Some at → HasCopyMore (faced_now m) (faced_now (move c m)) c.copy
 copied_now m c at a e = record {
   tree = refl;
   copies = copies_added c.copy m.now.buds (has_last m.now.buds 0 at.lnum (end_bud m.now.buds 0 0 0 m.ends at (omega arith) a.ends e));
@@ -171,7 +171,7 @@ copied_now m c at a e = record {
     lists None = refl
     lists (Some next) = refl
 
-pub copied_later : (m : Store) (c : Copying) (at : At) (next : Next) → AreApart m → IsSince m next.view → end_at m.ends 0 ≡ Some at → HasCopyMore (faced_later m next) (faced_later (move c m) (in_next (with_copy c.copy) 0 next)) c.copy
+pub copied_later : (m : Store) (c : Copying) (at : At) (next : Next) → AreRolesApart m → IsSince m next.view → end_at m.ends 0 ≡ Some at → HasCopyMore (faced_later m next) (faced_later (move c m) (in_next (with_copy c.copy) 0 next)) c.copy
 copied_later m c at next a since e = record {
   tree = refl;
   copies = new;

@@ -17,11 +17,11 @@ use Rattle.leaf_map.specs.Kept.{Kept, kept_at, Placed, shown, shown_by}
 use Rattle.leaf_map.specs.LeafMap.{shows_same}
 use Rattle.leaf_map.specs.Shown.{tree_of}
 use Rattle.store_model.specs.Events.{after_change, after_part, credit, end_at, granted, Held, in_next, paid, Part, Payment, put, Putting, with_items}
-use Rattle.store_model.specs.Fits.{AreOfListed, Faced, faced_now, IsLeft, IsOfNameless, IsTouchedBy, named_by, next_lists, StaysNameless}
+use Rattle.store_model.specs.Fits.{AreOfListed, Faced, faced_now, IsLeafLeft, IsOfNameless, IsTouchedBy, named_by_log, next_lists, StaysNameless}
 use Rattle.store_model.specs.Gone.{some_does, some_synced_does}
-use Rattle.store_model.specs.Heads.{copies_of, counts_of, groups_of, heads_of, numbered, with_group}
-use Rattle.store_model.specs.Invariant.{AreAccountedFor, AreApart, AreWholeOrLeft, faced_later, HasCommitted, HasGone, HasNumbers, HasSince, IsAccountedFor, IsMoved, IsSince, IsStore, OfBoth, OfNext, Stands}
-use Rattle.store_model.specs.Legal.{AreParts, FitHead, IsLeafOf, IsPart}
+use Rattle.store_model.specs.Heads.{copies_of, head_counts, groups_of_head, heads_of, numbered_group, with_head_group}
+use Rattle.store_model.specs.Invariant.{AreAccountedFor, AreRolesApart, AreWholeOrLeft, faced_later, HasCommittedView, HasGone, HasNumbers, HasSince, IsAccountedFor, IsMoved, IsSince, IsStore, OfBoth, OfNext, LeafStands}
+use Rattle.store_model.specs.Legal.{AreLegalParts, FitHead, IsLeafOf, IsLegalPart}
 use Rattle.store_model.specs.Store.{At, Bud, Carried, leaf, Moving, Next, Store}
 use Rattle.store_model.proofs.Accounted.{follows}
 use Rattle.store_model.proofs.AccountedCopies.{zero_less}
@@ -45,10 +45,10 @@ or_nothing true b h = refl
 or_nothing false true h = refl
 or_nothing false false h = h
 
-touched_synced : (buds : List Bud) (synced : List ℕ) (x : Kept) → get_or synced 1 0 ≤ length (groups_of 1 buds) → get_or synced 2 0 ≤ length (groups_of 2 buds) → IsTouchedBy (heads_of buds synced) x → some_synced_does (λ change. is_gone change x) synced buds ≡ true
+touched_synced : (buds : List Bud) (synced : List ℕ) (x : Kept) → get_or synced 1 0 ≤ length (groups_of_head 1 buds) → get_or synced 2 0 ≤ length (groups_of_head 2 buds) → IsTouchedBy (heads_of buds synced) x → some_synced_does (λ change. is_gone change x) synced buds ≡ true
 touched_synced buds synced x one two h =
-    let a = length_map numbered (groups_of 1 buds) in
-    let b = length_map numbered (groups_of 2 buds) in
+    let a = length_map numbered_group (groups_of_head 1 buds) in
+    let b = length_map numbered_group (groups_of_head 2 buds) in
     let keeps : KeepsSynced (heads_of buds synced) (0 ∷ get_or synced 1 0 ∷ get_or synced 2 0 ∷ []) = (omega arith, omega arith, (omega arith, omega (arith, one, a), (omega arith, omega (arith, two, b), tt))) in
     or_nothing _ _ (sym (taken_does (λ change. is_gone change x) buds synced (get_or synced 1 0) (get_or synced 2 0)) ∙ h (0 ∷ get_or synced 1 0 ∷ get_or synced 2 0 ∷ []) keeps)
 
@@ -62,8 +62,8 @@ record HasPut (m : Store) (f g : Faced) (group : List Carried) : Type 0 where
   synced : get_or g.synced 0 0 ≡ get_or f.synced 0 0
   lists : g.lists ≡ f.lists
   shows : ShowsTree f
-  base : get_or f.synced 1 0 ≤ length (groups_of 1 f.view.buds)
-  data_nodes : get_or f.synced 2 0 ≤ length (groups_of 2 f.view.buds)
+  base : get_or f.synced 1 0 ≤ length (groups_of_head 1 f.view.buds)
+  data_nodes : get_or f.synced 2 0 ≤ length (groups_of_head 2 f.view.buds)
 
 stays_lost : (m k : Store) (f g : Faced) (group : List Carried) (ino : ℕ) → HasPut m f g group → HasGone k g → StaysNameless f ino → StaysNameless g ino
 stays_lost m k f g group ino p gone h = (
@@ -80,7 +80,7 @@ nameless_put m k f g group p gone (Some (CutBlocks ino old new)) h = absurd h
 nameless_put m k f g group p gone (Some (DropInode ino)) h = absurd h
 nameless_put m k f g group p gone None h = absurd h
 
-left_put : (m k : Store) (f g : Faced) (group : List Carried) (x : Kept) → HasPut m f g group → HasGone k g → IsLeft f x → IsLeft g x
+left_put : (m k : Store) (f g : Faced) (group : List Carried) (x : Kept) → HasPut m f g group → HasGone k g → IsLeafLeft f x → IsLeafLeft g x
 left_put m k f g group x p gone (inl copy) =
     let copied : ℕ → List Placed → Bool = λ n copies. list_any (λ c. (c.sqnum == x.sqnum) && shows_same (shown_by x) (shown c.node)) (take n copies) in
     inl (ap (λ (n : ℕ). copied n (copies_of g.view.buds)) p.synced ∙ ap (copied (get_or f.synced 0 0)) p.copies ∙ copy)
@@ -143,7 +143,7 @@ part_one m part f g x p gone h = by h
 pub record IsPutReady (m : Store) : Type 0 where
   pub proper : IsProper m.tree
   pub names : map (λ orphan. orphan.ino) m.orphans ≡ nameless m.tree
-  pub apart : AreApart m
+  pub apart : AreRolesApart m
   pub since : HasSince m m.next
   pub numbers : HasNumbers m
   pub shows : OfBoth m ShowsTree
@@ -158,7 +158,7 @@ shows_next m k change n (Some next) h = h
 low_rest : (s a b : ℕ) → s ≤ a → s - (a - b) ≤ b
 low_rest s a b h = omega (arith, h)
 
-part_ready : (m : Store) (part : Part) → IsPart m part → IsPutReady m → IsPutReady (after_part m part)
+part_ready : (m : Store) (part : Part) → IsLegalPart m part → IsPutReady m → IsPutReady (after_part m part)
 part_ready m part is r = by (end_at m.ends part.head) refl is.fits
   where
     k : Store
@@ -167,7 +167,7 @@ part_ready m part is r = by (end_at m.ends part.head) refl is.fits
     gone : OfBoth k (HasGone k)
     gone = part_gone m part is r.proper r.names r.apart r.since r.gone
 
-    lists : (next : Option Next) → next_lists (option_map (in_next (with_group part.head part.group) (length part.group)) next) ≡ next_lists next
+    lists : (next : Option Next) → next_lists (option_map (in_next (with_head_group part.head part.group) (length part.group)) next) ≡ next_lists next
     lists None = refl
     lists (Some next) = refl
 
@@ -178,37 +178,37 @@ part_ready m part is r = by (end_at m.ends part.head) refl is.fits
       synced = refl;
       lists = ap (λ (ls : List (List ℕ)). m.listed ∷ ls) (lists m.next);
       shows = r.shows.0;
-      base = within_at m.synced (counts_of m.now.buds) 1 r.numbers.synced;
-      data_nodes = within_at m.synced (counts_of m.now.buds) 2 r.numbers.synced;
+      base = within_at m.synced (head_counts m.now.buds) 1 r.numbers.synced;
+      data_nodes = within_at m.synced (head_counts m.now.buds) 2 r.numbers.synced;
     }
 
-    later : (at : At) (next : Next) → end_at m.ends part.head ≡ Some at → IsSince m next.view → ShowsTree (faced_later m next) → HasPut m (faced_later m next) (faced_later k (in_next (with_group part.head part.group) (length part.group) next)) part.group
+    later : (at : At) (next : Next) → end_at m.ends part.head ≡ Some at → IsSince m next.view → ShowsTree (faced_later m next) → HasPut m (faced_later m next) (faced_later k (in_next (with_head_group part.head part.group) (length part.group) next)) part.group
     later at next e since shows = record {
       grown = grown_later m part at next is r.apart since e;
       copies = copies_put part.head part.group next.view.buds;
-      synced = zero_less m.synced _ _ _ ∙ ap (λ (cs : List Placed). get_or m.synced 0 0 - (length cs - length (copies_of (with_group part.head part.group next.view.buds)))) (copies_put part.head part.group m.now.buds)
+      synced = zero_less m.synced _ _ _ ∙ ap (λ (cs : List Placed). get_or m.synced 0 0 - (length cs - length (copies_of (with_head_group part.head part.group next.view.buds)))) (copies_put part.head part.group m.now.buds)
           ∙ ap (λ (cs : List Placed). get_or m.synced 0 0 - (length (copies_of m.now.buds) - length cs)) (copies_put part.head part.group next.view.buds) ∙ sym (zero_less m.synced _ _ _);
       lists = refl;
       shows = shows;
-      base = subst (λ (n : ℕ). n ≤ length (groups_of 1 next.view.buds)) (sym (one_less m.synced _ _ _)) (low_rest (get_or m.synced 1 0) (length (groups_of 1 m.now.buds)) (length (groups_of 1 next.view.buds)) (within_at m.synced (counts_of m.now.buds) 1 r.numbers.synced));
-      data_nodes = subst (λ (n : ℕ). n ≤ length (groups_of 2 next.view.buds)) (sym (two_less m.synced _ _ _)) (low_rest (get_or m.synced 2 0) (length (groups_of 2 m.now.buds)) (length (groups_of 2 next.view.buds)) (within_at m.synced (counts_of m.now.buds) 2 r.numbers.synced));
+      base = subst (λ (n : ℕ). n ≤ length (groups_of_head 1 next.view.buds)) (sym (one_less m.synced _ _ _)) (low_rest (get_or m.synced 1 0) (length (groups_of_head 1 m.now.buds)) (length (groups_of_head 1 next.view.buds)) (within_at m.synced (head_counts m.now.buds) 1 r.numbers.synced));
+      data_nodes = subst (λ (n : ℕ). n ≤ length (groups_of_head 2 next.view.buds)) (sym (two_less m.synced _ _ _)) (low_rest (get_or m.synced 2 0) (length (groups_of_head 2 m.now.buds)) (length (groups_of_head 2 next.view.buds)) (within_at m.synced (head_counts m.now.buds) 2 r.numbers.synced));
     }
 
-    stand : (o : Option At) → end_at m.ends part.head ≡ o → (x : Kept) → Stands m.lebs x → Stands k.lebs x
-    stand o e x st = subst (λ (o : Option At). Stands (option_map_or (λ at. with_items at.lnum (map leaf (map (λ c. c.placed) part.group)) m.lebs) o m.lebs) x) (sym e) (of o)
+    stand : (o : Option At) → end_at m.ends part.head ≡ o → (x : Kept) → LeafStands m.lebs x → LeafStands k.lebs x
+    stand o e x st = subst (λ (o : Option At). LeafStands (option_map_or (λ at. with_items at.lnum (map leaf (map (λ c. c.placed) part.group)) m.lebs) o m.lebs) x) (sym e) (of o)
       where
-        of : (o : Option At) → Stands (option_map_or (λ at. with_items at.lnum (map leaf (map (λ c. c.placed) part.group)) m.lebs) o m.lebs) x
+        of : (o : Option At) → LeafStands (option_map_or (λ at. with_items at.lnum (map leaf (map (λ c. c.placed) part.group)) m.lebs) o m.lebs) x
         of None = st
         of (Some at) = items_stand at.lnum (map leaf (map (λ c. c.placed) part.group)) m.lebs x st
 
-    keeps : (f g : Faced) (n : ℕ) → map named_by g.view.buds ≡ map named_by f.view.buds → HasPut m f g part.group → HasGone k g → KeepsLeb m k f g n
+    keeps : (f g : Faced) (n : ℕ) → map named_by_log g.view.buds ≡ map named_by_log f.view.buds → HasPut m f g part.group → HasGone k g → KeepsLeb m k f g n
     keeps f g n named p gone = record { named = named; stand = λ x at st. stand (end_at m.ends part.head) refl x st; left = λ x left. left_put m k f g part.group x p gone left }
 
-    both : (at : At) → end_at m.ends part.head ≡ Some at → (next : Option Next) → HasSince m next → OfNext m next ShowsTree → OfNext k (option_map (in_next (with_group part.head part.group) (length part.group)) next) (HasGone k) → OfNext m next (AreAccountedFor m) → OfNext m next (AreWholeOrLeft m)
-        → OfNext k (option_map (in_next (with_group part.head part.group) (length part.group)) next) (AreAccountedFor k) × OfNext k (option_map (in_next (with_group part.head part.group) (length part.group)) next) (AreWholeOrLeft k)
+    both : (at : At) → end_at m.ends part.head ≡ Some at → (next : Option Next) → HasSince m next → OfNext m next ShowsTree → OfNext k (option_map (in_next (with_head_group part.head part.group) (length part.group)) next) (HasGone k) → OfNext m next (AreAccountedFor m) → OfNext m next (AreWholeOrLeft m)
+        → OfNext k (option_map (in_next (with_head_group part.head part.group) (length part.group)) next) (AreAccountedFor k) × OfNext k (option_map (in_next (with_head_group part.head part.group) (length part.group)) next) (AreWholeOrLeft k)
     both at e None since shows gone acc whole = (tt, tt)
     both at e (Some next) since shows gone acc whole =
-        let after : Next = in_next (with_group part.head part.group) (length part.group) next in
+        let after : Next = in_next (with_head_group part.head part.group) (length part.group) next in
         let p = later at next e since shows in (
           each_weaker (IsAccountedFor m (faced_later m next)) (IsAccountedFor k (faced_later k after)) (λ x h. part_one m part (faced_later m next) (faced_later k after) x p gone h) next.view.kept acc,
           λ n. keeps_either m k (faced_later m next) (faced_later k after) n next.view.kept (keeps (faced_later m next) (faced_later k after) n (named_put part.head part.group next.view.buds) p gone) (whole n),
@@ -224,13 +224,13 @@ part_ready m part is r = by (end_at m.ends part.head) refl is.fits
           apart = part_apart m part is r.apart;
           since = part_since m part is r.apart r.since;
           numbers = part_numbers m part is.head is.numbers r.numbers;
-          shows = (r.shows.0, shows_next m k (with_group part.head part.group) (length part.group) m.next r.shows.1);
+          shows = (r.shows.0, shows_next m k (with_head_group part.head part.group) (length part.group) m.next r.shows.1);
           gone = gone;
           accounted = (each_weaker (IsAccountedFor m (faced_now m)) (IsAccountedFor k (faced_now k)) (λ x h. part_one m part (faced_now m) (faced_now k) x (now at e) gone.0 h) m.now.kept r.accounted.0, next.0);
           whole = (λ n. keeps_either m k (faced_now m) (faced_now k) n m.now.kept (keeps (faced_now m) (faced_now k) n (named_put part.head part.group m.now.buds) (now at e) gone.0) (r.whole.0 n), next.1);
         }
 
-parts_ready : (parts : List Part) (m : Store) → AreParts m parts → IsPutReady m → IsPutReady (fold after_part m parts)
+parts_ready : (parts : List Part) (m : Store) → AreLegalParts m parts → IsPutReady m → IsPutReady (fold after_part m parts)
 parts_ready [] m are r = r
 parts_ready (part ∷ parts) m are r = parts_ready parts (after_part m part) are.1 (part_ready m part are.0 r)
 
@@ -247,7 +247,7 @@ store_ready m s = record {
   whole = s.whole_or_left;
 }
   where
-    by : (next : Option Next) → OfNext m next (λ f. HasCommitted f.view) → OfNext m next ShowsTree
+    by : (next : Option Next) → OfNext m next (λ f. HasCommittedView f.view) → OfNext m next ShowsTree
     by None h = tt
     by (Some next) h = h.tree
 
@@ -267,7 +267,7 @@ as_kept m k gone acc whole (Some next) same g a w = (
   subst (AreWholeOrLeft k) (sym (same next)) (λ n. keeps_either m k (faced_later m next) (faced_later m next) n next.view.kept (whole (faced_later m next) n) (w n)),
 )
 
-pub put_kept : (m : Store) (p : Putting) → AreParts m p.parts → IsStore m → HasKept (put p m)
+pub put_kept : (m : Store) (p : Putting) → AreLegalParts m p.parts → IsStore m → HasKept (put p m)
 put_kept m p are s = by p.payment (parts_ready p.parts m are (store_ready m s))
   where
     end : Store

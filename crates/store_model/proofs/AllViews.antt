@@ -5,10 +5,10 @@ use Rattle.std.specs.List.{AllByRecursion, list_any}
 use Rattle.std.specs.Option.{option_map}
 use Rattle.index_tree.specs.Removal.{same_leaf}
 use Rattle.leaf_map.specs.Kept.{Kept, kept_at, Placed}
-use Rattle.store_model.specs.Events.{after, at_copy, Begin, Copying, Drop, End, end_at, end_commit, Event, Free, free_victim, Move, move, Offer, offer, offered, Open, Put, Start, start, Sync, Write, write_index}
-use Rattle.store_model.specs.Fits.{named_by}
+use Rattle.store_model.specs.Events.{after, at_its_copy, Begin, Copying, Drop, End, end_at, end_commit, Event, Free, free_victim, Move, move, Offer, offer, offered, Open, Put, Start, start, Sync, Write, write_index}
+use Rattle.store_model.specs.Fits.{named_by_log}
 use Rattle.store_model.specs.Heads.{has_bud, with_copy}
-use Rattle.store_model.specs.Invariant.{AreApart, AreOfViews, HasSince, IsOfNext, IsOfView, IsStore}
+use Rattle.store_model.specs.Invariant.{AreRolesApart, AreOfViews, HasSince, IsOfNext, IsOfView, IsStore}
 use Rattle.store_model.specs.Legal.{FitHead, IsLeafOf, IsLegalEvent}
 use Rattle.store_model.specs.Store.{At, Bud, Moving, Next, Store}
 use Rattle.store_model.specs.Texts.{AreNextBudsIn, AreTexts, items_len, text_in}
@@ -20,22 +20,22 @@ use Rattle.store_model.proofs.TextEnds.{end_of}
 use Rattle.store_model.proofs.Units.{some_unit}
 
 -- ---- a copy
-pub named_copy : (copy : Placed) (buds : List Bud) → map named_by (with_copy copy buds) ≡ map named_by buds
+pub named_copy : (copy : Placed) (buds : List Bud) → map named_by_log (with_copy copy buds) ≡ map named_by_log buds
 named_copy copy [] = refl
 named_copy copy (bud ∷ buds) = by (named_copy copy buds) ((bud.head == 0) && not (has_bud 0 buds)) refl
   where
-    by : map named_by (with_copy copy buds) ≡ map named_by buds → (b : Bool) → ((bud.head == 0) && not (has_bud 0 buds)) ≡ b → map named_by (with_copy copy (bud ∷ buds)) ≡ map named_by (bud ∷ buds)
+    by : map named_by_log (with_copy copy buds) ≡ map named_by_log buds → (b : Bool) → ((bud.head == 0) && not (has_bud 0 buds)) ≡ b → map named_by_log (with_copy copy (bud ∷ buds)) ≡ map named_by_log (bud ∷ buds)
     by rest true e = rw e refl
-    by rest false e = rw e (ap (λ (ns : List Named). named_by bud ∷ ns) rest)
+    by rest false e = rw e (ap (λ (ns : List Named). named_by_log bud ∷ ns) rest)
 
-copy_buds : (copy : Placed) (buds : List Bud) (leaf : Leaf) → in_bud (map named_by buds) leaf ≡ true → in_bud (map named_by (with_copy copy buds)) leaf ≡ true
+copy_buds : (copy : Placed) (buds : List Bud) (leaf : Leaf) → in_bud (map named_by_log buds) leaf ≡ true → in_bud (map named_by_log (with_copy copy buds)) leaf ≡ true
 copy_buds copy buds leaf is = ap (λ (ns : List Named). in_bud ns leaf) (named_copy copy buds) ∙ is
 
 each_map : (P Q : Kept → Type 0) (f : Kept → Kept) → ((x : Kept) → P x → Q (f x)) → (xs : List Kept) → AllByRecursion P xs → AllByRecursion Q (map f xs)
 each_map P Q f more [] h = tt
 each_map P Q f more (x ∷ xs) h = (more x h.0, each_map P Q f more xs h.1)
 
-move_views : (m : Store) (c : Copying) → FitHead m (end_at m.ends 0) (c.copy ∷ []) → AreApart m → HasSince m m.next → AreTexts m → AreOfViews m → AreOfViews (move c m)
+move_views : (m : Store) (c : Copying) → FitHead m (end_at m.ends 0) (c.copy ∷ []) → AreRolesApart m → HasSince m m.next → AreTexts m → AreOfViews m → AreOfViews (move c m)
 move_views m c fits a since t v = by (end_at m.ends 0) refl fits
   where
     k : Store
@@ -56,24 +56,24 @@ move_views m c fits a since t v = by (end_at m.ends 0) refl fits
     later : (at : At) (x : Kept) (next : Option Next) → end_at m.ends 0 ≡ Some at → c.copy.lnum ≡ at.lnum → c.copy.offs ≡ items_len (text_in m.lebs at.lnum) → HasSince m next → AreNextBudsIn m.lebs next → IsOfNext next (copied x)
     later at x None e same low since b = tt
     later at x (Some next) e same low since b =
-        inl (subst (λ (n : ℕ). list_any (λ b. (b.lnum == n) && nat_le b.from c.copy.offs) (map named_by next.view.buds) ≡ true) (sym same)
+        inl (subst (λ (n : ℕ). list_any (λ b. (b.lnum == n) && nat_le b.from c.copy.offs) (map named_by_log next.view.buds) ≡ true) (sym same)
         (bud_begins m.lebs 0 at.lnum c.copy.offs next.view.buds (omega (arith, low)) (end_bud next.view.buds 0 0 0 m.ends at (omega arith) since.ends e) b.each))
 
     by : (o : Option At) → end_at m.ends 0 ≡ o → FitHead m o (c.copy ∷ []) → AreOfViews k
     by None e fits = absurd fits
-    by (Some at) e fits = record { live = each_map P Q (at_copy c) one m.live v.live; held = each_weaker P Q more m.held v.held }
+    by (Some at) e fits = record { live = each_map P Q (at_its_copy c) one m.live v.live; held = each_weaker P Q more m.held v.held }
       where
         low : c.copy.offs ≡ items_len (text_in m.lebs at.lnum)
         low = fits.0.1 ∙ (end_of m.geo m.lebs 0 m.ends at t.ends e).0
 
         here : (x : Kept) → P (copied x)
         here x = (
-          inl (subst (λ (n : ℕ). list_any (λ b. (b.lnum == n) && nat_le b.from c.copy.offs) (map named_by m.now.buds) ≡ true) (sym fits.0.0)
+          inl (subst (λ (n : ℕ). list_any (λ b. (b.lnum == n) && nat_le b.from c.copy.offs) (map named_by_log m.now.buds) ≡ true) (sym fits.0.0)
               (bud_begins m.lebs 0 at.lnum c.copy.offs m.now.buds (omega (arith, low)) (end_bud m.now.buds 0 0 0 m.ends at (omega arith) a.ends e) t.buds.each)),
           later at x m.next e fits.0.0 low since t.later,
         )
 
-        one : (x : Kept) → P x → Q (at_copy c x)
+        one : (x : Kept) → P x → Q (at_its_copy c x)
         one x h = by_copy (same_leaf x.leaf c.leaf.leaf)
           where
             by_copy : (b : Bool) → Q (cond b (copied x) x)

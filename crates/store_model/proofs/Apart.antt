@@ -7,7 +7,7 @@ use Rattle.std.proofs.lemmas.Bool.{and_parts, eqb-true, false≢true}
 use Rattle.fs_model.specs.Journal.{AreNext}
 use Rattle.fs_model.specs.Proper.{ascends}
 use Rattle.fs_model.specs.Recovery.{Numbered}
-use Rattle.store_model.specs.Heads.{groups_of, has_bud, numbered, with_group}
+use Rattle.store_model.specs.Heads.{groups_of_head, has_bud, numbered_group, with_head_group}
 use Rattle.store_model.specs.Invariant.{are_given, are_other, has_number, head_numbers}
 use Rattle.store_model.specs.Store.{Bud, Carried}
 use Rattle.store_model.proofs.PutGroups.{IsGrown, groups_put, numbers_end}
@@ -45,12 +45,12 @@ high_low n (c ∷ high) low h g =
     rw (none_low n c.0 low p.0 g) (high_low n high low p.1 g)
 
 -- another head gets nothing
-pub groups_other : (head h : ℕ) (group : List Carried) (buds : List Bud) → (h == head) ≡ false → groups_of head (with_group h group buds) ≡ groups_of head buds
+pub groups_other : (head h : ℕ) (group : List Carried) (buds : List Bud) → (h == head) ≡ false → groups_of_head head (with_head_group h group buds) ≡ groups_of_head head buds
 groups_other head h group [] other = refl
 groups_other head h group (bud ∷ buds) other = by (groups_other head h group buds other) (has_bud h buds) refl (bud.head == h) refl (bud.head == head) refl
   where
-    by : groups_of head (with_group h group buds) ≡ groups_of head buds → (more : Bool) → has_bud h buds ≡ more → (mine : Bool) → (bud.head == h) ≡ mine → (here : Bool) → (bud.head == head) ≡ here
-        → groups_of head (with_group h group (bud ∷ buds)) ≡ groups_of head (bud ∷ buds)
+    by : groups_of_head head (with_head_group h group buds) ≡ groups_of_head head buds → (more : Bool) → has_bud h buds ≡ more → (mine : Bool) → (bud.head == h) ≡ mine → (here : Bool) → (bud.head == head) ≡ here
+        → groups_of_head head (with_head_group h group (bud ∷ buds)) ≡ groups_of_head head (bud ∷ buds)
     by s false o true m true i = absurd (false≢true (sym other ∙ ap (λ k. k == head) (sym (eqb-true bud.head h m)) ∙ i))
     by s false o true m false i = rw (o, m, i) refl
     by s true o true m true i = rw (o, m, i) (ap (λ gs. bud.groups ++ gs) s)
@@ -61,25 +61,25 @@ groups_other head h group (bud ∷ buds) other = by (groups_other head h group b
 given_low : (n : ℕ) (changes : Numbered) → are_given n changes ≡ true → list_all (λ c. nat_le c.0 n) changes ≡ true
 given_low n changes h = (and_parts (ascends nat_cmp (map (λ c. c.0) changes)) (list_all (λ c. nat_le c.0 n) changes) h).1
 
-pub apart_put : (n h : ℕ) (group : List Carried) (buds : List Bud) → (h ≡ 1) ⊎ (h ≡ 2) → AreNext n (numbered group) → are_given n (head_numbers buds 1) ≡ true → are_given n (head_numbers buds 2) ≡ true
-    → are_other (head_numbers buds 1) (head_numbers buds 2) ≡ true → are_other (head_numbers (with_group h group buds) 1) (head_numbers (with_group h group buds) 2) ≡ true
+pub apart_put : (n h : ℕ) (group : List Carried) (buds : List Bud) → (h ≡ 1) ⊎ (h ≡ 2) → AreNext n (numbered_group group) → are_given n (head_numbers buds 1) ≡ true → are_given n (head_numbers buds 2) ≡ true
+    → are_other (head_numbers buds 1) (head_numbers buds 2) ≡ true → are_other (head_numbers (with_head_group h group buds) 1) (head_numbers (with_head_group h group buds) 2) ≡ true
 apart_put n h group buds (inl one) next given_1 given_2 apart =
     let same = groups_other 2 h group buds (ap (λ k. k == 2) one) in
     by same (groups_put 1 h group buds)
   where
-    by : groups_of 2 (with_group h group buds) ≡ groups_of 2 buds → IsGrown (groups_of 1 buds) group (groups_of 1 (with_group h group buds))
-        → are_other (head_numbers (with_group h group buds) 1) (head_numbers (with_group h group buds) 2) ≡ true
+    by : groups_of_head 2 (with_head_group h group buds) ≡ groups_of_head 2 buds → IsGrown (groups_of_head 1 buds) group (groups_of_head 1 (with_head_group h group buds))
+        → are_other (head_numbers (with_head_group h group buds) 1) (head_numbers (with_head_group h group buds) 2) ≡ true
     by same (inl still) = rw (same, still) apart
     by same (inr more) =
-        rw (same, more, numbers_end (groups_of 1 buds) group)
-        (others_both_left (head_numbers buds 1) (numbered group) (head_numbers buds 2) apart (high_low n (numbered group) (head_numbers buds 2) next.above (given_low n (head_numbers buds 2) given_2)))
+        rw (same, more, numbers_end (groups_of_head 1 buds) group)
+        (others_both_left (head_numbers buds 1) (numbered_group group) (head_numbers buds 2) apart (high_low n (numbered_group group) (head_numbers buds 2) next.above (given_low n (head_numbers buds 2) given_2)))
 apart_put n h group buds (inr two) next given_1 given_2 apart =
     let same = groups_other 1 h group buds (ap (λ k. k == 1) two) in
     by same (groups_put 2 h group buds)
   where
-    by : groups_of 1 (with_group h group buds) ≡ groups_of 1 buds → IsGrown (groups_of 2 buds) group (groups_of 2 (with_group h group buds))
-        → are_other (head_numbers (with_group h group buds) 1) (head_numbers (with_group h group buds) 2) ≡ true
+    by : groups_of_head 1 (with_head_group h group buds) ≡ groups_of_head 1 buds → IsGrown (groups_of_head 2 buds) group (groups_of_head 2 (with_head_group h group buds))
+        → are_other (head_numbers (with_head_group h group buds) 1) (head_numbers (with_head_group h group buds) 2) ≡ true
     by same (inl still) = rw (same, still) apart
     by same (inr more) =
-        rw (same, more, numbers_end (groups_of 2 buds) group)
-        (others_both_right (head_numbers buds 1) (head_numbers buds 2) (numbered group) apart (low_high n (head_numbers buds 1) (numbered group) (given_low n (head_numbers buds 1) given_1) next.above))
+        rw (same, more, numbers_end (groups_of_head 2 buds) group)
+        (others_both_right (head_numbers buds 1) (head_numbers buds 2) (numbered_group group) apart (low_high n (head_numbers buds 1) (numbered_group group) (given_low n (head_numbers buds 1) given_1) next.above))

@@ -8,12 +8,12 @@ use Rattle.fs_model.specs.Journal.{with_group_at}
 use Rattle.fs_model.specs.Orphan.{without_nameless}
 use Rattle.fs_model.specs.Recovery.{Head, Numbered}
 use Rattle.fs_model.specs.RecoveryLaws.{are_high, high_with, in_heads, IsParted, joined, joined_with, long_with, replayed}
-use Rattle.store_model.specs.Begun.{HasBegun, IsBegun}
+use Rattle.store_model.specs.Begun.{HasBegun, IsCommitBegun}
 use Rattle.store_model.specs.Events.{after_part, begin, Copying, credit, drop_inode, end_at, free_victim, granted, in_next, move, new_bud, offer, offered, open_leb, paid, Part, Payment, put, Putting, sync, write_index}
-use Rattle.store_model.specs.Heads.{counts_of, groups_of, has_bud, heads_of, less, numbered, synced_since, with_copy, with_group}
-use Rattle.store_model.specs.Invariant.{AreApart, HasSince, IsSince}
-use Rattle.store_model.specs.Legal.{AreConsecutive, AreParts, FitHead, IsPart}
-use Rattle.store_model.specs.Store.{At, Bud, Carried, Index, Moving, Next, Store, View}
+use Rattle.store_model.specs.Heads.{head_counts, groups_of_head, has_bud, heads_of, less, numbered_group, synced_since, with_copy, with_head_group}
+use Rattle.store_model.specs.Invariant.{AreRolesApart, HasSince, IsSince}
+use Rattle.store_model.specs.Legal.{AreConsecutive, AreLegalParts, FitHead, IsLegalPart}
+use Rattle.store_model.specs.Store.{At, Bud, Carried, StoreIndex, Moving, Next, Store, View}
 use Rattle.store_model.proofs.Apart.{groups_other}
 use Rattle.store_model.proofs.BackingCalls.{heads_open, length_map}
 use Rattle.store_model.proofs.BackingPuts.{groups_added, has_last, heads_put}
@@ -42,28 +42,28 @@ plain_head groups synced = record { groups = groups; synced = synced }
 
 -- so many less those before
 abbrev pub head_with : List (List Carried) → ℕ → List (List Carried) → Head
-head_with groups synced all = record { groups = map numbered groups; synced = synced - (length all - length groups) }
+head_with groups synced all = record { groups = map numbered_group groups; synced = synced - (length all - length groups) }
 
 abbrev pub since_heads : List ℕ → List Bud → List Bud → List Head
 since_heads synced all last =
-    (record { groups = []; synced = 0 }) ∷ head_with (groups_of 1 last) (get_or synced 1 0) (groups_of 1 all) ∷ head_with (groups_of 2 last) (get_or synced 2 0) (groups_of 2 all) ∷ []
+    (record { groups = []; synced = 0 }) ∷ head_with (groups_of_head 1 last) (get_or synced 1 0) (groups_of_head 1 all) ∷ head_with (groups_of_head 2 last) (get_or synced 2 0) (groups_of_head 2 all) ∷ []
 
 pub since_is : (m : Store) (next : Next) → heads_of next.view.buds (synced_since m next) ≡ since_heads m.synced m.now.buds next.view.buds
 since_is m next =
-    let gone : List ℕ = less (counts_of m.now.buds) (counts_of next.view.buds) in
-    ap (λ (n : ℕ). (record { groups = []; synced = 0 }) ∷ (record { groups = map numbered (groups_of 1 next.view.buds); synced = n }) ∷ (record { groups = map numbered (groups_of 2 next.view.buds); synced = get_or (less m.synced gone) 2 0 }) ∷ [])
+    let gone : List ℕ = less (head_counts m.now.buds) (head_counts next.view.buds) in
+    ap (λ (n : ℕ). (record { groups = []; synced = 0 }) ∷ (record { groups = map numbered_group (groups_of_head 1 next.view.buds); synced = n }) ∷ (record { groups = map numbered_group (groups_of_head 2 next.view.buds); synced = get_or (less m.synced gone) 2 0 }) ∷ [])
     (one_less m.synced _ _ _)
-    ∙ ap (λ (n : ℕ). (record { groups = []; synced = 0 }) ∷ head_with (groups_of 1 next.view.buds) (get_or m.synced 1 0) (groups_of 1 m.now.buds) ∷ (record { groups = map numbered (groups_of 2 next.view.buds); synced = n }) ∷ [])
+    ∙ ap (λ (n : ℕ). (record { groups = []; synced = 0 }) ∷ head_with (groups_of_head 1 next.view.buds) (get_or m.synced 1 0) (groups_of_head 1 m.now.buds) ∷ (record { groups = map numbered_group (groups_of_head 2 next.view.buds); synced = n }) ∷ [])
     (two_less m.synced _ _ _)
 
-pub same_since : (a b : Store) (next after : Next) → a.synced ≡ b.synced → groups_of 1 a.now.buds ≡ groups_of 1 b.now.buds → groups_of 2 a.now.buds ≡ groups_of 2 b.now.buds
-    → groups_of 1 after.view.buds ≡ groups_of 1 next.view.buds → groups_of 2 after.view.buds ≡ groups_of 2 next.view.buds
+pub same_since : (a b : Store) (next after : Next) → a.synced ≡ b.synced → groups_of_head 1 a.now.buds ≡ groups_of_head 1 b.now.buds → groups_of_head 2 a.now.buds ≡ groups_of_head 2 b.now.buds
+    → groups_of_head 1 after.view.buds ≡ groups_of_head 1 next.view.buds → groups_of_head 2 after.view.buds ≡ groups_of_head 2 next.view.buds
     → heads_of after.view.buds (synced_since a after) ≡ heads_of next.view.buds (synced_since b next)
 same_since a b next after synced one two one_next two_next = since_is a after ∙ rw (synced, one, two, one_next, two_next) refl ∙ sym (since_is b next)
 
 -- ---- events that put nothing
 same_begun : (m k : Store) (next after : Next) → k.now.tree ≡ m.now.tree → after.view.tree ≡ next.view.tree → heads_of k.now.buds k.synced ≡ heads_of m.now.buds m.synced
-    → heads_of after.view.buds (synced_since k after) ≡ heads_of next.view.buds (synced_since m next) → m.sqnum ≤ k.sqnum → IsBegun m next → IsBegun k after
+    → heads_of after.view.buds (synced_since k after) ≡ heads_of next.view.buds (synced_since m next) → m.sqnum ≤ k.sqnum → IsCommitBegun m next → IsCommitBegun k after
 same_begun m k next after tree began now since up b =
     let above = b.parted.above in
     record {
@@ -89,7 +89,7 @@ free_begun m (Some moving) b = by m.next b
     by None b = tt
     by (Some next) b = same_begun m (free_victim m (Some moving)) next next refl refl refl refl (omega arith) b
 
-pub drop_begun : (m : Store) (ino : ℕ) (index : Index) → HasBegun m m.next → HasBegun (drop_inode ino index m) (drop_inode ino index m).next
+pub drop_begun : (m : Store) (ino : ℕ) (index : StoreIndex) → HasBegun m m.next → HasBegun (drop_inode ino index m) (drop_inode ino index m).next
 drop_begun m ino index b = by m.next b
   where
     by : (next : Option Next) → HasBegun m next → HasBegun (drop_inode ino index m) next
@@ -136,31 +136,31 @@ move_begun m c b = by m.next b
 
 -- ---- a put
 -- a group stands last at its head, of those since too
-grown : (all last : List (List Carried)) (group : List Carried) (synced : ℕ) → head_with (last ++ group ∷ []) synced (all ++ group ∷ []) ≡ record (head_with last synced all) { groups = map numbered last ++ numbered group ∷ [] }
+grown : (all last : List (List Carried)) (group : List Carried) (synced : ℕ) → head_with (last ++ group ∷ []) synced (all ++ group ∷ []) ≡ record (head_with last synced all) { groups = map numbered_group last ++ numbered_group group ∷ [] }
 grown all last group synced =
     let a = length-append all (group ∷ []) in
     let b = length-append last (group ∷ []) in
     let same : synced - (length (all ++ group ∷ []) - length (last ++ group ∷ [])) ≡ synced - (length all - length last) = omega (arith, a, b) in
-    ap (λ (n : ℕ). record { groups = map numbered (last ++ group ∷ []); synced = n }) same ∙ ap (λ (gs : List Numbered). record { groups = gs; synced = synced - (length all - length last) }) (map-append numbered last (group ∷ []))
+    ap (λ (n : ℕ). record { groups = map numbered_group (last ++ group ∷ []); synced = n }) same ∙ ap (λ (gs : List Numbered). record { groups = gs; synced = synced - (length all - length last) }) (map-append numbered_group last (group ∷ []))
 
 since_put : (h : ℕ) (group : List Carried) (synced : List ℕ) (all last : List Bud) → (h ≡ 1) ⊎ (h ≡ 2) → has_bud h all ≡ true → has_bud h last ≡ true
-    → since_heads synced (with_group h group all) (with_group h group last) ≡ with_group_at (since_heads synced all last) h (numbered group)
+    → since_heads synced (with_head_group h group all) (with_head_group h group last) ≡ with_group_at (since_heads synced all last) h (numbered_group group)
 since_put h group synced all last (inl one) in_all in_last =
-    let P : ℕ → List Bud → Type 0 = λ k buds. groups_of k (with_group h group buds) ≡ groups_of k buds ++ group ∷ [] in
+    let P : ℕ → List Bud → Type 0 = λ k buds. groups_of_head k (with_head_group h group buds) ≡ groups_of_head k buds ++ group ∷ [] in
     let a = subst (λ (k : ℕ). P k all) one (groups_added h group all in_all) in
     let b = subst (λ (k : ℕ). P k last) one (groups_added h group last in_last) in
     let c = groups_other 2 h group all (ap (λ (k : ℕ). k == 2) one) in
     let d = groups_other 2 h group last (ap (λ (k : ℕ). k == 2) one) in
-    subst (λ (k : ℕ). since_heads synced (with_group h group all) (with_group h group last) ≡ with_group_at (since_heads synced all last) k (numbered group)) (sym one)
-    (rw (a, b, c, d) (ap (λ (x : Head). (record { groups = []; synced = 0 }) ∷ x ∷ head_with (groups_of 2 last) (get_or synced 2 0) (groups_of 2 all) ∷ []) (grown (groups_of 1 all) (groups_of 1 last) group (get_or synced 1 0))))
+    subst (λ (k : ℕ). since_heads synced (with_head_group h group all) (with_head_group h group last) ≡ with_group_at (since_heads synced all last) k (numbered_group group)) (sym one)
+    (rw (a, b, c, d) (ap (λ (x : Head). (record { groups = []; synced = 0 }) ∷ x ∷ head_with (groups_of_head 2 last) (get_or synced 2 0) (groups_of_head 2 all) ∷ []) (grown (groups_of_head 1 all) (groups_of_head 1 last) group (get_or synced 1 0))))
 since_put h group synced all last (inr two) in_all in_last =
-    let P : ℕ → List Bud → Type 0 = λ k buds. groups_of k (with_group h group buds) ≡ groups_of k buds ++ group ∷ [] in
+    let P : ℕ → List Bud → Type 0 = λ k buds. groups_of_head k (with_head_group h group buds) ≡ groups_of_head k buds ++ group ∷ [] in
     let a = subst (λ (k : ℕ). P k all) two (groups_added h group all in_all) in
     let b = subst (λ (k : ℕ). P k last) two (groups_added h group last in_last) in
     let c = groups_other 1 h group all (ap (λ (k : ℕ). k == 1) two) in
     let d = groups_other 1 h group last (ap (λ (k : ℕ). k == 1) two) in
-    subst (λ (k : ℕ). since_heads synced (with_group h group all) (with_group h group last) ≡ with_group_at (since_heads synced all last) k (numbered group)) (sym two)
-    (rw (a, b, c, d) (ap (λ (x : Head). (record { groups = []; synced = 0 }) ∷ head_with (groups_of 1 last) (get_or synced 1 0) (groups_of 1 all) ∷ x ∷ []) (grown (groups_of 2 all) (groups_of 2 last) group (get_or synced 2 0))))
+    subst (λ (k : ℕ). since_heads synced (with_head_group h group all) (with_head_group h group last) ≡ with_group_at (since_heads synced all last) k (numbered_group group)) (sym two)
+    (rw (a, b, c, d) (ap (λ (x : Head). (record { groups = []; synced = 0 }) ∷ head_with (groups_of_head 1 last) (get_or synced 1 0) (groups_of_head 1 all) ∷ x ∷ []) (grown (groups_of_head 2 all) (groups_of_head 2 last) group (get_or synced 2 0))))
 
 pub high_group : (mark n : ℕ) (group : Numbered) → mark ≤ n → AreConsecutive n group → are_high mark group ≡ true
 high_group mark n [] low follow = refl
@@ -168,13 +168,13 @@ high_group mark n (c ∷ group) low follow =
     let here = follow.0 in
     and_from (nat_lt mark c.0) (are_high mark group) (lt-ltb mark c.0 (omega (arith, here, low))) (high_group mark (n + 1) group (omega (arith, low)) follow.1)
 
-put_begun_at : (m : Store) (part : Part) (next : Next) (at : At) → end_at m.ends part.head ≡ Some at → IsPart m part → AreApart m → IsSince m next.view → IsBegun m next → IsBegun (after_part m part) (in_next (with_group part.head part.group) (length part.group) next)
+put_begun_at : (m : Store) (part : Part) (next : Next) (at : At) → end_at m.ends part.head ≡ Some at → IsLegalPart m part → AreRolesApart m → IsSince m next.view → IsCommitBegun m next → IsCommitBegun (after_part m part) (in_next (with_head_group part.head part.group) (length part.group) next)
 put_begun_at m part next at e is a s b =
     let k : Store = after_part m part in
-    let after : Next = in_next (with_group part.head part.group) (length part.group) next in
+    let after : Next = in_next (with_head_group part.head part.group) (length part.group) next in
     let old = has_last m.now.buds part.head at.lnum (end_bud m.now.buds 0 part.head part.head m.ends at (omega arith) a.ends e) in
     let new = has_last next.view.buds part.head at.lnum (end_bud next.view.buds 0 part.head part.head m.ends at (omega arith) s.ends e) in
-    let group : Numbered = numbered part.group in
+    let group : Numbered = numbered_group part.group in
     let since : List Head = heads_of next.view.buds (synced_since m next) in
     let since_then : heads_of after.view.buds (synced_since k after) ≡ with_group_at since part.head group =
     since_is k after ∙ since_put part.head part.group m.synced m.now.buds next.view.buds is.head old new ∙ ap (λ (heads : List Head). with_group_at heads part.head group) (sym (since_is m next)) in
@@ -195,10 +195,10 @@ put_begun_at m part next at e is a s b =
       began = b.began;
     }
 
-part_begun : (m : Store) (part : Part) → IsPart m part → AreApart m → HasSince m m.next → HasBegun m m.next → HasBegun (after_part m part) (after_part m part).next
+part_begun : (m : Store) (part : Part) → IsLegalPart m part → AreRolesApart m → HasSince m m.next → HasBegun m m.next → HasBegun (after_part m part) (after_part m part).next
 part_begun m part is a s b = by (end_at m.ends part.head) refl is.fits
   where
-    of : (at : At) → end_at m.ends part.head ≡ Some at → (next : Option Next) → HasSince m next → HasBegun m next → HasBegun (after_part m part) (option_map (in_next (with_group part.head part.group) (length part.group)) next)
+    of : (at : At) → end_at m.ends part.head ≡ Some at → (next : Option Next) → HasSince m next → HasBegun m next → HasBegun (after_part m part) (option_map (in_next (with_head_group part.head part.group) (length part.group)) next)
     of at e None s b = tt
     of at e (Some next) s b = put_begun_at m part next at e is a s b
 
@@ -206,11 +206,11 @@ part_begun m part is a s b = by (end_at m.ends part.head) refl is.fits
     by None e fits = absurd fits
     by (Some at) e fits = of at e m.next s b
 
-parts_begun : (parts : List Part) (m : Store) → AreParts m parts → AreApart m → HasSince m m.next → HasBegun m m.next → HasBegun (fold after_part m parts) (fold after_part m parts).next
+parts_begun : (parts : List Part) (m : Store) → AreLegalParts m parts → AreRolesApart m → HasSince m m.next → HasBegun m m.next → HasBegun (fold after_part m parts) (fold after_part m parts).next
 parts_begun [] m are a s b = b
 parts_begun (part ∷ parts) m are a s b = parts_begun parts (after_part m part) are.1 (part_apart m part are.0 a) (part_since m part are.0 a s) (part_begun m part are.0 a s b)
 
-pub put_begun : (m : Store) (p : Putting) → AreParts m p.parts → AreApart m → HasSince m m.next → HasBegun m m.next → HasBegun (put p m) (put p m).next
+pub put_begun : (m : Store) (p : Putting) → AreLegalParts m p.parts → AreRolesApart m → HasSince m m.next → HasBegun m m.next → HasBegun (put p m) (put p m).next
 put_begun m p are a s b = by p.payment (parts_begun p.parts m are a s b)
   where
     end : Store
@@ -227,15 +227,15 @@ put_begun m p are a s b = by p.payment (parts_begun p.parts m are a s b)
 
 -- ---- a sync
 -- of each head all is synced
-all_joined_at : (before : List Numbered) (all last : List (List Carried)) → map numbered all ≡ before ++ map numbered last
-    → plain_head (map numbered all) (length all) ≡ plain_head (before ++ map numbered last) (length before + (length all - (length all - length last)))
+all_joined_at : (before : List Numbered) (all last : List (List Carried)) → map numbered_group all ≡ before ++ map numbered_group last
+    → plain_head (map numbered_group all) (length all) ≡ plain_head (before ++ map numbered_group last) (length before + (length all - (length all - length last)))
 all_joined_at before all last e =
     let a = ap (λ (gs : List Numbered). length gs) e in
-    let b = length-append before (map numbered last) in
-    let c = length_map numbered all in
-    let d = length_map numbered last in
+    let b = length-append before (map numbered_group last) in
+    let c = length_map numbered_group all in
+    let d = length_map numbered_group last in
     let count : length all ≡ length before + (length all - (length all - length last)) = omega (arith, a, b, c, d) in
-    ap (λ (gs : List Numbered). plain_head gs (length all)) e ∙ ap (plain_head (before ++ map numbered last)) count
+    ap (λ (gs : List Numbered). plain_head gs (length all)) e ∙ ap (plain_head (before ++ map numbered_group last)) count
 
 -- the groups of the n-th head
 abbrev groups_at : ℕ → List Head → List Numbered
@@ -246,22 +246,22 @@ nothing [] h = refl
 nothing (x ∷ a) h = absurd cc
 
 synced_heads : (m : Store) (next : Next) (before : List (List Numbered)) → length (heads_of next.view.buds (synced_since m next)) ≡ length before → heads_of m.now.buds m.synced ≡ joined before (heads_of next.view.buds (synced_since m next))
-    → heads_of m.now.buds (counts_of m.now.buds) ≡ joined before (since_heads (counts_of m.now.buds) m.now.buds next.view.buds)
+    → heads_of m.now.buds (head_counts m.now.buds) ≡ joined before (since_heads (head_counts m.now.buds) m.now.buds next.view.buds)
 synced_heads m next [] long e = absurd (omega (arith, long))
 synced_heads m next (a ∷ []) long e = absurd (omega (arith, long))
 synced_heads m next (a ∷ b ∷ []) long e = absurd (omega (arith, long))
 synced_heads m next (a ∷ b ∷ c ∷ d ∷ before) long e = absurd (omega (arith, long))
 synced_heads m next (a ∷ b ∷ c ∷ []) long e =
-    let all1 : List (List Carried) = groups_of 1 m.now.buds in
-    let all2 : List (List Carried) = groups_of 2 m.now.buds in
-    let last1 : List (List Carried) = groups_of 1 next.view.buds in
-    let last2 : List (List Carried) = groups_of 2 next.view.buds in
+    let all1 : List (List Carried) = groups_of_head 1 m.now.buds in
+    let all2 : List (List Carried) = groups_of_head 2 m.now.buds in
+    let last1 : List (List Carried) = groups_of_head 1 next.view.buds in
+    let last2 : List (List Carried) = groups_of_head 2 next.view.buds in
     let first = nothing a (ap (groups_at 0) e) in
     let one = all_joined_at b all1 last1 (ap (groups_at 1) e) in
     let two = all_joined_at c all2 last2 (ap (groups_at 2) e) in
-    ap (λ (x : Head). x ∷ plain_head (map numbered all1) (length all1) ∷ plain_head (map numbered all2) (length all2) ∷ []) first
-    ∙ ap (λ (x : Head). plain_head (a ++ []) (length a + 0) ∷ x ∷ plain_head (map numbered all2) (length all2) ∷ []) one
-    ∙ ap (λ (x : Head). plain_head (a ++ []) (length a + 0) ∷ plain_head (b ++ map numbered last1) (length b + (length all1 - (length all1 - length last1))) ∷ x ∷ []) two
+    ap (λ (x : Head). x ∷ plain_head (map numbered_group all1) (length all1) ∷ plain_head (map numbered_group all2) (length all2) ∷ []) first
+    ∙ ap (λ (x : Head). plain_head (a ++ []) (length a + 0) ∷ x ∷ plain_head (map numbered_group all2) (length all2) ∷ []) one
+    ∙ ap (λ (x : Head). plain_head (a ++ []) (length a + 0) ∷ plain_head (b ++ map numbered_group last1) (length b + (length all1 - (length all1 - length last1))) ∷ x ∷ []) two
 
 pub sync_begun : (m : Store) → HasBegun m m.next → HasBegun (sync m) (sync m).next
 sync_begun m b = by m.next b
@@ -271,7 +271,7 @@ sync_begun m b = by m.next b
     by (Some next) b =
         let k : Store = sync m in
         let p = b.parted in
-        let since : heads_of next.view.buds (synced_since k next) ≡ since_heads (counts_of m.now.buds) m.now.buds next.view.buds = since_is k next in
+        let since : heads_of next.view.buds (synced_since k next) ≡ since_heads (head_counts m.now.buds) m.now.buds next.view.buds = since_is k next in
         record {
           before = b.before;
           mark = b.mark;

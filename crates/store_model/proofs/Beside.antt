@@ -23,7 +23,7 @@ use Rattle.fs_laws.specs.Orders.{numbers}
 use Rattle.leaf_map.specs.Kept.{Kept, shown_by}
 use Rattle.leaf_map.specs.LeafMap.{HasKeyOf, IsKeyed}
 use Rattle.leaf_map.specs.Recovered.{highest_key}
-use Rattle.leaf_map.specs.Shown.{inodes_of, with_inode}
+use Rattle.leaf_map.specs.Shown.{inodes_of, with_shown_inode}
 
 -- no inode has a number above the highest
 abbrev pub has_low_inodes : ℕ → Inodes → Bool
@@ -190,7 +190,7 @@ above_first : (highest : ℕ) (keys : List Key) (n : ℕ) → nat_le n highest �
 above_first highest [] n h = h
 above_first highest (key ∷ keys) n h = above_first (max highest (key_words key).0) keys n (high_more n highest (key_words key).0 h)
 
-inode_low : (shown : Option Change) (leaf : Leaf) (inodes : Inodes) (n : ℕ) → HasKeyOf leaf shown → nat_le (key_words leaf.key).0 n ≡ true → has_low_inodes n inodes ≡ true → has_low_inodes n (with_inode shown inodes) ≡ true
+inode_low : (shown : Option Change) (leaf : Leaf) (inodes : Inodes) (n : ℕ) → HasKeyOf leaf shown → nat_le (key_words leaf.key).0 n ≡ true → has_low_inodes n inodes ≡ true → has_low_inodes n (with_shown_inode shown inodes) ≡ true
 inode_low (Some (SetInode ino inode)) leaf inodes n is here low = and_from (nat_le ino n) (has_low_inodes n inodes) (ap (λ (key : Key). nat_le (key_words key).0 n) (sym is) ∙ here) low
 inode_low shown leaf inodes n is here low = low
 

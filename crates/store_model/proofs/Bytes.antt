@@ -8,17 +8,17 @@ use Rattle.fs_model.specs.Cover.{round_8}
 use Rattle.fs_model.specs.declared.change.Change.{Change}
 use Rattle.fs_model.specs.declared.change.Change.TheVariants.{DropInode}
 use Rattle.group_nodes.specs.Nodes.{node_of}
-use Rattle.leaf_map.specs.After.{Carries, come_by, gone_by, is_gone, is_idle, is_set, kept_by, used_by}
+use Rattle.leaf_map.specs.After.{ShowsChange, come_by, gone_by, is_gone, is_idle, is_set, kept_by, used_by}
 use Rattle.leaf_map.specs.Kept.{Kept, Placed, kept_at, kept_bytes}
 use Rattle.leaf_map.specs.LeafMap.{IsLeafMap}
 use Rattle.store_model.specs.Events.{Held, Part, Payment, after_change, after_part, credit, granted, nodes_len, paid}
-use Rattle.store_model.specs.Legal.{AreParts, IsCarried, nodes_of}
+use Rattle.store_model.specs.Legal.{AreLegalParts, IsCarried, nodes_of_parts}
 use Rattle.store_model.specs.Store.{Carried, Store}
 use Rattle.store_model.proofs.Puts.{KeptLaw}
 
 -- bytes of leaves add up
 abbrev pub ByteLaw : Type 0
-ByteLaw = (change : Change) (new : Placed) (kept : List Kept) → IsLeaf new.node → Carries change new.node → IsLeafMap kept
+ByteLaw = (change : Change) (new : Placed) (kept : List Kept) → IsLeaf new.node → ShowsChange change new.node → IsLeafMap kept
     → used_by (kept_by change (kept_at new) kept) + used_by (gone_by change kept) ≡ used_by kept + used_by (come_by change (kept_at new) kept)
 
 abbrev bytes_in : Held → ℕ
@@ -55,14 +55,14 @@ group_bytes law keeps (c ∷ group) h is leaves =
     omega (arith, rest, change_bytes law h c is.0 leaves, sum_by-cons (λ (placed : Placed). round_8 placed.len) c.placed (map (λ c. c.placed) group))
 
 -- groups that can be put
-pub parts_bytes : ByteLaw → KeptLaw → (parts : List Part) (m : Store) → AreParts m parts → IsLeafMap m.live
-    → used_by (fold after_part m parts).live + used_by (fold after_part m parts).held ≤ used_by m.live + used_by m.held + nodes_len (nodes_of parts)
+pub parts_bytes : ByteLaw → KeptLaw → (parts : List Part) (m : Store) → AreLegalParts m parts → IsLeafMap m.live
+    → used_by (fold after_part m parts).live + used_by (fold after_part m parts).held ≤ used_by m.live + used_by m.held + nodes_len (nodes_of_parts parts)
 parts_bytes law keeps [] m are leaves = omega arith
 parts_bytes law keeps (part ∷ parts) m are leaves =
     let h : Held = record { live = m.live; held = m.held } in
     let first = group_bytes law keeps part.group h are.0.carried leaves in
     let rest = parts_bytes law keeps parts (after_part m part) are.1 (group_leaves keeps part.group h are.0.carried leaves) in
-    omega (arith, first, rest, nodes_more (map (λ c. c.placed) part.group) (nodes_of parts))
+    omega (arith, first, rest, nodes_more (map (λ c. c.placed) part.group) (nodes_of_parts parts))
 
 -- what pays changes none
 pub paid_bytes : (payment : Payment) (m : Store) → used_by (paid payment m).live + used_by (paid payment m).held ≡ used_by m.live + used_by m.held

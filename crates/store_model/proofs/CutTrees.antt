@@ -9,10 +9,10 @@ use Rattle.fs_model.specs.Proper.{IsProper}
 use Rattle.fs_model.specs.Recovery.{Head, IsRecovered, recovered, taken}
 use Rattle.store_model.specs.Events.{after, Begin, begin, Copying, Drop, drop_inode, End, end_commit, Event, Free, free_victim, in_next, Move, move, new_bud, Offer, offer, offered, Open, open_leb, Put, Putting, Start, start, Sync, sync, Write, write_index}
 use Rattle.store_model.specs.Fits.{Faced, faced_now}
-use Rattle.store_model.specs.Heads.{counts_of, groups_of, heads_of, synced_since, with_copy}
+use Rattle.store_model.specs.Heads.{head_counts, groups_of_head, heads_of, synced_since, with_copy}
 use Rattle.store_model.specs.Invariant.{AreProper, are_within, faced_later, IsStore, OfBoth, OfNext}
 use Rattle.store_model.specs.Legal.{CanStart, IsLegalEvent}
-use Rattle.store_model.specs.Store.{Bud, Index, Moving, Next, Store}
+use Rattle.store_model.specs.Store.{Bud, StoreIndex, Moving, Next, Store}
 use Rattle.store_model.proofs.BackingCalls.{heads_open, synced_further}
 use Rattle.store_model.proofs.BegunCommits.{next_started, none_since}
 use Rattle.store_model.proofs.BegunEvents.{same_since, since_heads, since_is}
@@ -89,10 +89,10 @@ move_cut m c h = (same_proper (faced_now m) (faced_now k) refl (rw (one, two) re
     k : Store
     k = move c m
 
-    one : groups_of 1 (with_copy c.copy m.now.buds) ≡ groups_of 1 m.now.buds
+    one : groups_of_head 1 (with_copy c.copy m.now.buds) ≡ groups_of_head 1 m.now.buds
     one = groups_copied 1 c.copy m.now.buds
 
-    two : groups_of 2 (with_copy c.copy m.now.buds) ≡ groups_of 2 m.now.buds
+    two : groups_of_head 2 (with_copy c.copy m.now.buds) ≡ groups_of_head 2 m.now.buds
     two = groups_copied 2 c.copy m.now.buds
 
     by : (next : Option Next) → OfNext m next AreProper → OfNext k (option_map (in_next (with_copy c.copy) 0) next) AreProper
@@ -105,17 +105,17 @@ move_cut m c h = (same_proper (faced_now m) (faced_now k) refl (rw (one, two) re
 less_left : (a b c : ℕ) → a ≤ b → a - c ≤ b - c
 less_left a b c h = omega (arith, h)
 
-next_further : (m : Store) (next : Next) → are_within m.synced (counts_of m.now.buds) ≡ true → AreFurther (heads_of next.view.buds (synced_since m next)) (heads_of next.view.buds (synced_since (sync m) next))
+next_further : (m : Store) (next : Next) → are_within m.synced (head_counts m.now.buds) ≡ true → AreFurther (heads_of next.view.buds (synced_since m next)) (heads_of next.view.buds (synced_since (sync m) next))
 next_further m next within =
     let all = synced_further m.now.buds m.synced within in
-    let one = length (groups_of 1 m.now.buds) - length (groups_of 1 next.view.buds) in
-    let two = length (groups_of 2 m.now.buds) - length (groups_of 2 next.view.buds) in
-    let both : AreFurther (since_heads m.synced m.now.buds next.view.buds) (since_heads (counts_of m.now.buds) m.now.buds next.view.buds) =
-    (refl, omega arith, (refl, less_left (get_or m.synced 1 0) (length (groups_of 1 m.now.buds)) one all.2.1, (refl, less_left (get_or m.synced 2 0) (length (groups_of 2 m.now.buds)) two all.2.2.1, tt))) in
+    let one = length (groups_of_head 1 m.now.buds) - length (groups_of_head 1 next.view.buds) in
+    let two = length (groups_of_head 2 m.now.buds) - length (groups_of_head 2 next.view.buds) in
+    let both : AreFurther (since_heads m.synced m.now.buds next.view.buds) (since_heads (head_counts m.now.buds) m.now.buds next.view.buds) =
+    (refl, omega arith, (refl, less_left (get_or m.synced 1 0) (length (groups_of_head 1 m.now.buds)) one all.2.1, (refl, less_left (get_or m.synced 2 0) (length (groups_of_head 2 m.now.buds)) two all.2.2.1, tt))) in
     subst (λ (olds : List Head). AreFurther olds (heads_of next.view.buds (synced_since (sync m) next))) (sym (since_is m next))
     (subst (λ (news : List Head). AreFurther (since_heads m.synced m.now.buds next.view.buds) news) (sym (since_is (sync m) next)) both)
 
-sync_cut : (m : Store) → are_within m.synced (counts_of m.now.buds) ≡ true → OfBoth m AreProper → OfBoth (sync m) AreProper
+sync_cut : (m : Store) → are_within m.synced (head_counts m.now.buds) ≡ true → OfBoth m AreProper → OfBoth (sync m) AreProper
 sync_cut m within h = (further_proper (faced_now m) (faced_now (sync m)) refl (synced_further m.now.buds m.synced within) h.0, by m.next h.1)
   where
     by : (next : Option Next) → OfNext m next AreProper → OfNext (sync m) next AreProper
@@ -164,7 +164,7 @@ start_cut law m numbers can proper h = (h.0, later)
         subst IsProper (sym (empty.tree_is ∙ ap (recovered m.tree) (none_taken empty.counts))) (law m.tree proper)
 
 -- ---- all but a put
-drop_cut : (m : Store) (ino : ℕ) (index : Index) → OfBoth m AreProper → OfBoth (drop_inode ino index m) AreProper
+drop_cut : (m : Store) (ino : ℕ) (index : StoreIndex) → OfBoth m AreProper → OfBoth (drop_inode ino index m) AreProper
 drop_cut m ino index h = stays m (drop_inode ino index m) refl refl refl h
 
 pub each_cut : MountLaw → (m : Store) (event : Event) → IsLegalEvent m event → ((p : Putting) → event ≡ Put p → ⊥) → IsStore m → OfBoth (after event m) AreProper

@@ -17,9 +17,9 @@ use Rattle.fs_model.specs.Cover.{round_8}
 use Rattle.group_nodes.specs.Texts.{leaf_len}
 use Rattle.leaf_map.specs.After.{is_gone, kept_by}
 use Rattle.leaf_map.specs.Kept.{Kept, kept_at, Placed}
-use Rattle.store_model.specs.Events.{after, after_change, after_part, at_copy, Begin, Copying, credit, Drop, End, end_at, end_commit, Event, Free, free_victim, granted, Held, Move, move, nodes_len, Offer, Open, paid, Part, Payment, Put, put, Putting, Start, Sync, Write, write_index}
-use Rattle.store_model.specs.Invariant.{AreApart, HasNumbers, HasSince, IsMeantIn, IsStore, Stands}
-use Rattle.store_model.specs.Legal.{are_distinct, AreParts, CanMove, FitHead, IsLegalEvent, IsPart, StandFrom}
+use Rattle.store_model.specs.Events.{after, after_change, after_part, at_its_copy, Begin, Copying, credit, Drop, End, end_at, end_commit, Event, Free, free_victim, granted, Held, Move, move, nodes_len, Offer, Open, paid, Part, Payment, Put, put, Putting, Start, Sync, Write, write_index}
+use Rattle.store_model.specs.Invariant.{AreRolesApart, HasNumbers, HasSince, IsMeantIn, IsStore, LeafStands}
+use Rattle.store_model.specs.Legal.{are_distinct, AreLegalParts, CanMove, FitHead, IsLegalEvent, IsLegalPart, StandFrom}
 use Rattle.store_model.specs.Store.{At, branching, Carried, gap, Item, leaf, Leb, Moving, Next, Store}
 use Rattle.store_model.specs.Texts.{AreTexts, IsLaidOut, items_len, leaf_nodes, text_in}
 use Rattle.store_model.proofs.LebPuts.{part_apart}
@@ -56,13 +56,13 @@ text_low lnum offs x (leaf p ∷ text) h (inr more) =
 text_low lnum offs x (branching b ∷ text) h is = text_low lnum offs x text h is
 text_low lnum offs x (gap n ∷ text) h is = text_low lnum offs x text h is
 
-stands_there : (lebs : List Leb) (x : Kept) → Stands lebs x → list_any (λ k. k == x.leaf.lnum) (lnums lebs) ≡ true
+stands_there : (lebs : List Leb) (x : Kept) → LeafStands lebs x → list_any (λ k. k == x.leaf.lnum) (lnums lebs) ≡ true
 stands_there [] x s = absurd s
 stands_there (leb ∷ lebs) x (inl is) = or_left (leb.lnum == x.leaf.lnum) (list_any (λ k. k == x.leaf.lnum) (lnums lebs)) (eq-eqb leb.lnum x.leaf.lnum is.0)
 stands_there (leb ∷ lebs) x (inr s) = or_right (leb.lnum == x.leaf.lnum) (list_any (λ k. k == x.leaf.lnum) (lnums lebs)) (stands_there lebs x s)
 
 -- a leaf that stands ends in the text of its LEB
-pub stood_low : (geo : RawGeometry) (lebs : List Leb) (x : Kept) → AllByRecursion (IsLaidOut geo) lebs → are_distinct (lnums lebs) ≡ true → Stands lebs x → x.leaf.offs + round_8 x.leaf.len ≤ items_len (text_in lebs x.leaf.lnum)
+pub stood_low : (geo : RawGeometry) (lebs : List Leb) (x : Kept) → AllByRecursion (IsLaidOut geo) lebs → are_distinct (lnums lebs) ≡ true → LeafStands lebs x → x.leaf.offs + round_8 x.leaf.len ≤ items_len (text_in lebs x.leaf.lnum)
 stood_low geo [] x laid d s = absurd s
 stood_low geo (leb ∷ lebs) x laid d (inl is) =
     let all = subst (λ (n : ℕ). list_all (λ p. (p.lnum == leb.lnum) && nat_le (p.offs + round_8 p.len) n) (leaf_nodes leb.text) ≡ true) (none_plus (items_len leb.text)) (standing_ends leb.lnum 0 leb.text laid.0.places) in
@@ -79,10 +79,10 @@ stood_low geo (leb ∷ lebs) x laid d (inr s) = by (stood_low geo lebs x laid.1 
     by rest false e = rest
 
 -- at an open head all live leaves end where it ends, or before
-all_low : (m : Store) (head : ℕ) (at : At) (xs : List Kept) → AreApart m → AreTexts m → end_at m.ends head ≡ Some at → AllByRecursion (Stands m.lebs) xs → AllByRecursion (IsLow at.lnum at.offs) xs
-all_low m head at xs a t e s = each_weaker (Stands m.lebs) (IsLow at.lnum at.offs) (λ x stands same. low x stands same) xs s
+all_low : (m : Store) (head : ℕ) (at : At) (xs : List Kept) → AreRolesApart m → AreTexts m → end_at m.ends head ≡ Some at → AllByRecursion (LeafStands m.lebs) xs → AllByRecursion (IsLow at.lnum at.offs) xs
+all_low m head at xs a t e s = each_weaker (LeafStands m.lebs) (IsLow at.lnum at.offs) (λ x stands same. low x stands same) xs s
   where
-    low : (x : Kept) → Stands m.lebs x → x.leaf.lnum ≡ at.lnum → x.leaf.offs + round_8 x.leaf.len ≤ at.offs
+    low : (x : Kept) → LeafStands m.lebs x → x.leaf.lnum ≡ at.lnum → x.leaf.offs + round_8 x.leaf.len ≤ at.offs
     low x stands same =
         let off = (end_of m.geo m.lebs head m.ends at t.ends e).0 in
         let h = subst (λ (n : ℕ). x.leaf.offs + round_8 x.leaf.len ≤ items_len (text_in m.lebs n)) same (stood_low m.geo m.lebs x t.laid a.numbers stands) in
@@ -141,20 +141,20 @@ group_distinct law lnum offs (c ∷ group) h s low d =
     here : IsLow lnum next (kept_at c.placed)
     here same = let at = s.1 in let len = one_len c.placed in omega (arith, at, len)
 
-part_distinct : DistinctLaw → (m : Store) (part : Part) → IsPart m part → AreApart m → AreTexts m → AllByRecursion (Stands m.lebs) m.live → AreDistinct (leaves m.live) → AreDistinct (leaves (after_part m part).live)
+part_distinct : DistinctLaw → (m : Store) (part : Part) → IsLegalPart m part → AreRolesApart m → AreTexts m → AllByRecursion (LeafStands m.lebs) m.live → AreDistinct (leaves m.live) → AreDistinct (leaves (after_part m part).live)
 part_distinct law m part is a t s d = by (end_at m.ends part.head) refl is.fits
   where
     by : (o : Option At) → end_at m.ends part.head ≡ o → FitHead m o (map (λ c. c.placed) part.group) → AreDistinct (leaves (after_part m part).live)
     by None e fits = absurd fits
     by (Some at) e fits = group_distinct law at.lnum at.offs part.group (record { live = m.live; held = m.held }) fits.0 (all_low m part.head at m.live a t e s) d
 
-parts_distinct : DistinctLaw → (parts : List Part) (m : Store) → AreParts m parts → 0 < m.geo.min_io → AreApart m → HasSince m m.next → HasNumbers m → AreTexts m → AllByRecursion (Stands m.lebs) m.live → AreDistinct (leaves m.live) → AreDistinct (leaves (fold after_part m parts).live)
+parts_distinct : DistinctLaw → (parts : List Part) (m : Store) → AreLegalParts m parts → 0 < m.geo.min_io → AreRolesApart m → HasSince m m.next → HasNumbers m → AreTexts m → AllByRecursion (LeafStands m.lebs) m.live → AreDistinct (leaves m.live) → AreDistinct (leaves (fold after_part m parts).live)
 parts_distinct law [] m are some a since n t s d = d
 parts_distinct law (part ∷ parts) m are some a since n t s d =
     parts_distinct law parts (after_part m part) are.1 some (part_apart m part are.0 a) (part_since m part are.0 a since) (part_numbers m part are.0.head are.0.numbers n) (part_texts m part are.0 some a since n t) (part_stands m part are.0 a s)
     (part_distinct law m part are.0 a t s d)
 
-put_distinct : DistinctLaw → (m : Store) (p : Putting) → AreParts m p.parts → IsStore m → AreDistinct (leaves (put p m).live)
+put_distinct : DistinctLaw → (m : Store) (p : Putting) → AreLegalParts m p.parts → IsStore m → AreDistinct (leaves (put p m).live)
 put_distinct law m p are s = by p.payment (parts_distinct law p.parts m are (some_unit m.geo s.geometry) s.apart s.since s.numbers s.standing.texts s.stands s.distinct)
   where
     end : Store
@@ -200,7 +200,7 @@ same_through : (x y z : Leaf) → same_leaf x z ≡ true → same_leaf y z ≡ t
 unfolding same_leaf
 same_through x y z h g = grind (arith, nat_tests)
 
-copied_apart : (c : Copying) (lnum offs : ℕ) (x : Kept) (xs : List Kept) → c.copy.lnum ≡ lnum → c.copy.offs ≡ offs → 0 < c.copy.len → IsLow lnum offs x → AllByRecursion (IsLow lnum offs) xs → Apart x.leaf (leaves xs) → Apart (at_copy c x).leaf (leaves (map (at_copy c) xs))
+copied_apart : (c : Copying) (lnum offs : ℕ) (x : Kept) (xs : List Kept) → c.copy.lnum ≡ lnum → c.copy.offs ≡ offs → 0 < c.copy.len → IsLow lnum offs x → AllByRecursion (IsLow lnum offs) xs → Apart x.leaf (leaves xs) → Apart (at_its_copy c x).leaf (leaves (map (at_its_copy c) xs))
 copied_apart c lnum offs x [] at stand some low all a = tt
 copied_apart c lnum offs x (y ∷ xs) at stand some low all a = (by (same_leaf x.leaf c.leaf.leaf) refl (same_leaf y.leaf c.leaf.leaf) refl, copied_apart c lnum offs x xs at stand some low all.1 a.1)
   where
@@ -213,17 +213,17 @@ copied_apart c lnum offs x (y ∷ xs) at stand some low all a = (by (same_leaf x
     by false e true f = not_here lnum offs x new low at stand some
     by false e false f = a.0
 
-copied_distinct : (c : Copying) (lnum offs : ℕ) (xs : List Kept) → c.copy.lnum ≡ lnum → c.copy.offs ≡ offs → 0 < c.copy.len → AllByRecursion (IsLow lnum offs) xs → AreDistinct (leaves xs) → AreDistinct (leaves (map (at_copy c) xs))
+copied_distinct : (c : Copying) (lnum offs : ℕ) (xs : List Kept) → c.copy.lnum ≡ lnum → c.copy.offs ≡ offs → 0 < c.copy.len → AllByRecursion (IsLow lnum offs) xs → AreDistinct (leaves xs) → AreDistinct (leaves (map (at_its_copy c) xs))
 copied_distinct c lnum offs [] at stand some all d = none_distinct
 copied_distinct c lnum offs (x ∷ xs) at stand some all d =
-    IsDistinct-cons same_leaf (at_copy c x).leaf (leaves (map (at_copy c) xs))
+    IsDistinct-cons same_leaf (at_its_copy c x).leaf (leaves (map (at_its_copy c) xs))
     (copied_apart c lnum offs x xs at stand some all.0 all.1 (IsDistinct-head same_leaf x.leaf (leaves xs) d))
     (copied_distinct c lnum offs xs at stand some all.1 (IsDistinct-tail same_leaf x.leaf (leaves xs) d))
 
 move_distinct : (m : Store) (c : Copying) → CanMove m c → IsStore m → AreDistinct (leaves (move c m).live)
 move_distinct m c can s = by (end_at m.ends 0) refl can.fits
   where
-    by : (o : Option At) → end_at m.ends 0 ≡ o → FitHead m o (c.copy ∷ []) → AreDistinct (leaves (map (at_copy c) m.live))
+    by : (o : Option At) → end_at m.ends 0 ≡ o → FitHead m o (c.copy ∷ []) → AreDistinct (leaves (map (at_its_copy c) m.live))
     by None e fits = absurd fits
     by (Some at) e fits =
         let len = fits.0.2 in

@@ -10,15 +10,15 @@ use Rattle.ubifs_base.specs.Geometry.{index_nodes_per_leb}
 use Rattle.media_lpt.specs.declared.leb_kind.LebKind.TheVariants as kind
 use Rattle.fs_model.specs.declared.space.Need.{Need}
 use Rattle.fs_model.specs.declared.space.Space.{Space}
-use Rattle.space_budget.specs.Books.{AreGrantsCovered, group_need}
+use Rattle.space_budget.specs.Books.{AreGrantsCovered, next_group_need}
 use Rattle.space_budget.specs.BookLaws.{index_nodes-positive}
 use Rattle.space_sums.specs.Spaces.{HasRoom, IsAfterCommit, IsNextIndex, IsSettledTwice, with_empty}
 use Rattle.store_model.specs.Backing.{book_of}
 use Rattle.store_model.specs.Events.{all_places, dirty_count, End, end_commit, taken_place}
 use Rattle.store_model.specs.Invariant.{HasAllotted, HasNextIndex, IsAllotted, is_used, IsStore, IsTaking, lebs_taken}
-use Rattle.store_model.specs.Lebs.{has_leaf, has_node, has_role, is_among, is_role, IsSettledWith, IsStoreSettled, lent, running_of, space_of}
+use Rattle.store_model.specs.Lebs.{has_leaf, has_node, has_role, is_among, is_role, IsSettledWith, IsStoreSettled, lent, running_commit_of, space_of}
 use Rattle.store_model.specs.Legal.{are_distinct, IfRunning}
-use Rattle.store_model.specs.Store.{Leb, Next, Place, Store, View}
+use Rattle.store_model.specs.Store.{Leb, Next, IndexNodePlace, Store, View}
 use Rattle.store_model.proofs.LebCounts.{count_rows, freed_index, freed_more, row_count}
 use Rattle.store_model.proofs.LebEnds.{after_row, after_rows, among_all, ended_store}
 use Rattle.store_model.proofs.LebFrees.{freed_rows}
@@ -39,7 +39,7 @@ grown k n low e = by (nat_le (n + 1) k) refl
         let same : k ≡ n = omega (arith, under, low) in
         absurd (false≢true (sym e ∙ eq-eqb k n same))
 
-node_at : (geo : RawGeometry) (taken : List ℕ) (k n : ℕ) (clean : List (Option Place)) → n ≤ k → k < n + dirty_count clean → has_node (all_places geo taken n clean) (taken_place geo taken k).lnum ≡ true
+node_at : (geo : RawGeometry) (taken : List ℕ) (k n : ℕ) (clean : List (Option IndexNodePlace)) → n ≤ k → k < n + dirty_count clean → has_node (all_places geo taken n clean) (taken_place geo taken k).lnum ≡ true
 node_at geo taken k n [] low high = absurd (omega (arith, low, high))
 node_at geo taken k n (None ∷ clean) low high = by (λ (above : n + 1 ≤ k). node_at geo taken k (n + 1) clean above (omega (arith, high))) (k == n) refl
   where
@@ -62,7 +62,7 @@ get_node geo next some a i low =
     let per : ℕ = index_nodes_per_leb geo in
     let first = first_node i (dirty_count a.clean) (index_nodes_per_leb geo) some (subst (λ (z : ℕ). i < z) a.lebs low) in
     let here : has_node (all_places geo next.taken 0 a.clean) (get_or next.taken (i * index_nodes_per_leb geo / index_nodes_per_leb geo) 0) ≡ true = node_at geo next.taken (i * index_nodes_per_leb geo) 0 a.clean (omega arith) (omega (arith, first)) in
-    subst (λ (places : List Place). has_node places (get_or next.taken i 0) ≡ true) (sym a.places)
+    subst (λ (places : List IndexNodePlace). has_node places (get_or next.taken i 0) ≡ true) (sym a.places)
     (subst (λ (z : ℕ). has_node (all_places geo next.taken 0 a.clean) (get_or next.taken z 0) ≡ true) (mul-div_left i some) here)
 
 all_get : (test : ℕ → Bool) (numbers : List ℕ) → ((i : ℕ) → i < length numbers → test (get_or numbers i 0) ≡ true) → list_all test numbers ≡ true
@@ -169,7 +169,7 @@ end_both view ((n, kind.Bud) ∷ rs) = by (list_any (λ bud. bud.lnum == n) view
 -- ---- the numbers
 -- what an end leaves: no more LEBs of the index than were reckoned with, and no LEB of those that were empty, the index's or taken is lost
 record HasEnded (m : Store) (next : Next) : Type 0 where
-  index : (space_of (end_commit m (Some next))).index ≤ (running_of m next).lebs
+  index : (space_of (end_commit m (Some next))).index ≤ (running_commit_of m next).lebs
   both : (space_of m).empty + (space_of m).index + length next.taken ≤ (space_of (end_commit m (Some next))).empty + (space_of (end_commit m (Some next))).index
 
 ended_numbers : (m : Store) (next : Next) → m.next ≡ Some next → IsStore m → HasEnded m next
@@ -206,7 +206,7 @@ ended_numbers m next e s =
 pub end_settled : (m : Store) (next : Option Next) → m.next ≡ next → IfRunning m (λ next. next.offered ≡ true) → IsStore m → IsStoreSettled (end_commit m next)
 end_settled m None e can s = absurd (rw e at can)
 end_settled m (Some next) e can s =
-    let is : IsSettledTwice m.geo (running_of m next) (with_empty (lent m.moving) (space_of m)) = subst (λ (o : Option Next). IsSettledWith m (with_empty (lent m.moving) (space_of m)) o) e s.settled in
+    let is : IsSettledTwice m.geo (running_commit_of m next) (with_empty (lent m.moving) (space_of m)) = subst (λ (o : Option Next). IsSettledWith m (with_empty (lent m.moving) (space_of m)) o) e s.settled in
     let end = is.end in
     let a = end.empty in
     let b = end.index in
@@ -223,8 +223,8 @@ pub end_covered : ((geo : RawGeometry) (old new : Space) (need : Need) → IsAft
     → AreGrantsCovered (book_of (end_commit m next))
 end_covered law m None e can s = absurd (rw e at can)
 end_covered law m (Some next) e can s =
-    let small : IsNextIndex m.geo (running_of m next) (space_of m) = subst (λ (o : Option Next). HasNextIndex m o) e s.next_index in
+    let small : IsNextIndex m.geo (running_commit_of m next) (space_of m) = subst (λ (o : Option Next). HasNextIndex m o) e s.next_index in
     let lebs = small.lebs in
     let index = (ended_numbers m next e s).index in
     let long : length (end_commit m (Some next)).lebs ≡ length m.lebs = sym (map_long (end_commit m (Some next)).lebs) ∙ ap (λ (ns : List ℕ). length ns) (subst (λ (o : Option Next). map (λ leb. leb.lnum) (end_commit m o).lebs ≡ map (λ leb. leb.lnum) m.lebs) e (each_main m End)) ∙ map_long m.lebs in
-    record { room = law m.geo (space_of m) (space_of (end_commit m (Some next))) (group_need m.grant) (record { bytes = omega arith; credits = refl; index = omega (arith, lebs, index); weight = small.weight; main = long }) s.covered.room }
+    record { room = law m.geo (space_of m) (space_of (end_commit m (Some next))) (next_group_need m.grant) (record { bytes = omega arith; credits = refl; index = omega (arith, lebs, index); weight = small.weight; main = long }) s.covered.room }

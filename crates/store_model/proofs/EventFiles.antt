@@ -3,7 +3,7 @@ use Rattle.std.proofs.Common.{◌≡◌, ℕ, List, map, ◌∙◌, Option, Some
 use Rattle.index_tree.specs.Distinct.{AreDistinct}
 use Rattle.leaf_map.specs.Kept.{Kept}
 use Rattle.leaf_map.specs.Shown.{tree_of}
-use Rattle.store_model.specs.Events.{at_copy, Copying, end_commit, free_victim, move, start, write_index}
+use Rattle.store_model.specs.Events.{at_its_copy, Copying, end_commit, free_victim, move, start, write_index}
 use Rattle.store_model.specs.Invariant.{HasFiles}
 use Rattle.store_model.specs.Legal.{CanMove}
 use Rattle.store_model.specs.Store.{Moving, Next, Store}
@@ -16,7 +16,7 @@ PlacesLaw = (go : Kept → Kept) (kept : List Kept) (highest : ℕ) → ((x : Ke
 pub moved_files : PlacesLaw → (m : Store) (c : Copying) → CanMove m c → AreDistinct (map (λ x. x.leaf) m.live) → HasFiles m → HasFiles (move c m)
 moved_files places m c can d f = record {
   leaves = copied_map c m.live d can.live can.node_is f.leaves;
-  tree = places (at_copy c) m.live m.tree.highest (copy_node c) ∙ f.tree;
+  tree = places (at_its_copy c) m.live m.tree.highest (copy_node c) ∙ f.tree;
   index = can.index.contents_are;
 }
 

@@ -6,8 +6,8 @@ use Rattle.std.specs.Option.{option_map}
 use Rattle.std.proofs.lemmas.Bool.{and_from, and_parts, false≢true, le-leb, leb-true}
 use Rattle.index_tree.specs.Removal.{same_leaf}
 use Rattle.leaf_map.specs.Kept.{Kept, Placed, kept_at}
-use Rattle.store_model.specs.Events.{at_copy, begin, Copying, end_commit, free_victim, in_next, move, offer, offered, start, write_index}
-use Rattle.store_model.specs.Heads.{copies_of, counts_of, groups_of, has_bud, less, with_copy}
+use Rattle.store_model.specs.Events.{at_its_copy, begin, Copying, end_commit, free_victim, in_next, move, offer, offered, start, write_index}
+use Rattle.store_model.specs.Heads.{copies_of, head_counts, groups_of_head, has_bud, less, with_copy}
 use Rattle.store_model.specs.Fits.{Faced, faced_now}
 use Rattle.store_model.specs.Invariant.{AreNumbered, HasNumbers, OfNext, are_within, faced_later, head_numbers}
 use Rattle.store_model.specs.Store.{Bud, Moving, Next, Store}
@@ -28,12 +28,12 @@ up_by : (n k : ℕ) → nat_le n (n + k) ≡ true
 up_by n k = le-leb n (n + k) (omega arith)
 
 -- ---- a copy
-pub groups_copied : (head : ℕ) (copy : Placed) (buds : List Bud) → groups_of head (with_copy copy buds) ≡ groups_of head buds
+pub groups_copied : (head : ℕ) (copy : Placed) (buds : List Bud) → groups_of_head head (with_copy copy buds) ≡ groups_of_head head buds
 groups_copied head copy [] = refl
 groups_copied head copy (bud ∷ buds) = by (groups_copied head copy buds) ((bud.head == 0) && not (has_bud 0 buds)) refl (bud.head == head) refl
   where
-    by : groups_of head (with_copy copy buds) ≡ groups_of head buds → (last : Bool) → ((bud.head == 0) && not (has_bud 0 buds)) ≡ last → (here : Bool) → (bud.head == head) ≡ here
-        → groups_of head (with_copy copy (bud ∷ buds)) ≡ groups_of head (bud ∷ buds)
+    by : groups_of_head head (with_copy copy buds) ≡ groups_of_head head buds → (last : Bool) → ((bud.head == 0) && not (has_bud 0 buds)) ≡ last → (here : Bool) → (bud.head == head) ≡ here
+        → groups_of_head head (with_copy copy (bud ∷ buds)) ≡ groups_of_head head (bud ∷ buds)
     by s true l true i = rw (l, i) refl
     by s true l false i = rw (l, i) refl
     by s false l true i = rw (l, i) (ap (λ gs. bud.groups ++ gs) s)
@@ -65,13 +65,13 @@ copies_long copy (bud ∷ buds) = by (copies_long copy buds) (has_bud 0 buds) re
     by s false o true i = rw (i, o, i) longer
     by s false o false i = rw (o, i, i) s
 
-counts_copied : (copy : Placed) (buds : List Bud) → are_within (counts_of buds) (counts_of (with_copy copy buds)) ≡ true
+counts_copied : (copy : Placed) (buds : List Bud) → are_within (head_counts buds) (head_counts (with_copy copy buds)) ≡ true
 counts_copied copy buds =
     rw (groups_copied 1 copy buds, groups_copied 2 copy buds)
-    (and_from (nat_le (length (copies_of buds)) (length (copies_of (with_copy copy buds)))) (nat_le (length (groups_of 1 buds)) (length (groups_of 1 buds)) && (nat_le (length (groups_of 2 buds)) (length (groups_of 2 buds)) && true))
+    (and_from (nat_le (length (copies_of buds)) (length (copies_of (with_copy copy buds)))) (nat_le (length (groups_of_head 1 buds)) (length (groups_of_head 1 buds)) && (nat_le (length (groups_of_head 2 buds)) (length (groups_of_head 2 buds)) && true))
     (le-leb (length (copies_of buds)) (length (copies_of (with_copy copy buds))) (copies_long copy buds))
-    (and_from (nat_le (length (groups_of 1 buds)) (length (groups_of 1 buds))) (nat_le (length (groups_of 2 buds)) (length (groups_of 2 buds)) && true) (le-leb (length (groups_of 1 buds)) (length (groups_of 1 buds)) (omega arith))
-    (and_from (nat_le (length (groups_of 2 buds)) (length (groups_of 2 buds))) true (le-leb (length (groups_of 2 buds)) (length (groups_of 2 buds)) (omega arith)) refl)))
+    (and_from (nat_le (length (groups_of_head 1 buds)) (length (groups_of_head 1 buds))) (nat_le (length (groups_of_head 2 buds)) (length (groups_of_head 2 buds)) && true) (le-leb (length (groups_of_head 1 buds)) (length (groups_of_head 1 buds)) (omega arith))
+    (and_from (nat_le (length (groups_of_head 2 buds)) (length (groups_of_head 2 buds))) true (le-leb (length (groups_of_head 2 buds)) (length (groups_of_head 2 buds)) (omega arith)) refl)))
 
 copied_view : (m k : Store) (copy : Placed) (f g : Faced) → k.sqnum ≡ m.sqnum → g.view.buds ≡ with_copy copy f.view.buds → g.view.kept ≡ f.view.kept → AreNumbered m f → AreNumbered k g
 copied_view m k copy f g sqnum buds kept n = record {
@@ -81,11 +81,11 @@ copied_view m k copy f g sqnum buds kept n = record {
   kept = rw (sqnum, kept) n.kept;
 }
 
-copied_live : (n : ℕ) (c : Copying) (live : List Kept) → list_all (λ x. nat_le x.sqnum n) live ≡ true → list_all (λ x. nat_le x.sqnum n) (map (at_copy c) live) ≡ true
+copied_live : (n : ℕ) (c : Copying) (live : List Kept) → list_all (λ x. nat_le x.sqnum n) live ≡ true → list_all (λ x. nat_le x.sqnum n) (map (at_its_copy c) live) ≡ true
 copied_live n c [] h = refl
 copied_live n c (x ∷ live) h =
     let p = and_parts (nat_le x.sqnum n) (list_all (λ x. nat_le x.sqnum n) live) h in
-    and_from (nat_le (at_copy c x).sqnum n) (list_all (λ x. nat_le x.sqnum n) (map (at_copy c) live)) (by (same_leaf x.leaf c.leaf.leaf) p.0) (copied_live n c live p.1)
+    and_from (nat_le (at_its_copy c x).sqnum n) (list_all (λ x. nat_le x.sqnum n) (map (at_its_copy c) live)) (by (same_leaf x.leaf c.leaf.leaf) p.0) (copied_live n c live p.1)
   where
     by : (b : Bool) → nat_le x.sqnum n ≡ true → nat_le (cond b (record x { leaf = (kept_at c.copy).leaf }) x).sqnum n ≡ true
     by true h = h
@@ -99,7 +99,7 @@ pub moved_numbers : (m : Store) (c : Copying) → HasNumbers m → HasNumbers (m
 moved_numbers m c n = record {
   both = (copied_view m (move c m) c.copy (faced_now m) (faced_now (move c m)) refl refl refl n.both.0, copied_next m c m.next n.both.1);
   live = copied_live m.sqnum c m.live n.live;
-  synced = within_more m.synced (counts_of m.now.buds) (counts_of (with_copy c.copy m.now.buds)) n.synced (counts_copied c.copy m.now.buds);
+  synced = within_more m.synced (head_counts m.now.buds) (head_counts (with_copy c.copy m.now.buds)) n.synced (counts_copied c.copy m.now.buds);
 }
 
 -- ---- others
@@ -183,5 +183,5 @@ ended_numbers m (Some next) e n =
     record {
       both = (view_up m k (faced_later m next) (faced_now k) refl up old, tt);
       live = kept_still m.sqnum k.sqnum up m.live n.live;
-      synced = all_since m.synced (length (copies_of m.now.buds)) (length (groups_of 1 m.now.buds)) (length (groups_of 2 m.now.buds)) (length (copies_of next.view.buds)) (length (groups_of 1 next.view.buds)) (length (groups_of 2 next.view.buds)) n.synced;
+      synced = all_since m.synced (length (copies_of m.now.buds)) (length (groups_of_head 1 m.now.buds)) (length (groups_of_head 2 m.now.buds)) (length (copies_of next.view.buds)) (length (groups_of_head 1 next.view.buds)) (length (groups_of_head 2 next.view.buds)) n.synced;
     }

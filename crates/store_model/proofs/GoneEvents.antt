@@ -22,10 +22,10 @@ use Rattle.leaf_map.specs.Kept.{Kept, shown_by}
 use Rattle.store_model.specs.Events.{begin, Copying, drop_inode, end_commit, free_victim, in_next, is_synced_orphan, move, new_bud, next_list, offer, offered, open_buds, open_leb, start, sync, synced_orphan, view_now, write_index}
 use Rattle.store_model.specs.Fits.{Faced, faced_now}
 use Rattle.store_model.specs.Gone.{drops_inode, group_does, is_lost, LostItsName, some_does, some_synced_does}
-use Rattle.store_model.specs.Heads.{groups_of, synced_since, with_copy}
+use Rattle.store_model.specs.Heads.{groups_of_head, synced_since, with_copy}
 use Rattle.store_model.specs.Invariant.{faced_later, HasGone, HasSince, is_listed, IsStore, OfBoth, OfNext}
 use Rattle.store_model.specs.Legal.{CanDrop, CanStart}
-use Rattle.store_model.specs.Store.{Bud, Carried, Index, Moving, Next, Orphan, Store}
+use Rattle.store_model.specs.Store.{Bud, Carried, StoreIndex, Moving, Next, Orphan, Store}
 use Rattle.store_model.proofs.BackingStarts.{no_groups}
 use Rattle.store_model.proofs.BegunEvents.{one_less, two_less}
 use Rattle.store_model.proofs.EventNumbers.{groups_copied}
@@ -46,22 +46,22 @@ pub record SameGone (m k : Store) (f g : Faced) : Type 0 where
   pub orphans : k.orphans ≡ m.orphans
   pub kept : g.view.kept ≡ f.view.kept
   pub committed : g.view.tree ≡ f.view.tree
-  pub base : groups_of 1 g.view.buds ≡ groups_of 1 f.view.buds
-  pub data_nodes : groups_of 2 g.view.buds ≡ groups_of 2 f.view.buds
+  pub base : groups_of_head 1 g.view.buds ≡ groups_of_head 1 f.view.buds
+  pub data_nodes : groups_of_head 2 g.view.buds ≡ groups_of_head 2 f.view.buds
   pub base_synced : get_or g.synced 1 0 ≡ get_or f.synced 1 0
   pub data_synced : get_or g.synced 2 0 ≡ get_or f.synced 2 0
 
 does_as : (m k : Store) (f g : Faced) → SameGone m k f g → (t : Change → Bool) → some_does t g.view.buds ≡ some_does t f.view.buds
 does_as m k f g s t =
-    ap (λ (gs : List (List Carried)). list_any (group_does t) gs || list_any (group_does t) (groups_of 2 g.view.buds)) s.base
-    ∙ ap (λ (gs : List (List Carried)). list_any (group_does t) (groups_of 1 f.view.buds) || list_any (group_does t) gs) s.data_nodes
+    ap (λ (gs : List (List Carried)). list_any (group_does t) gs || list_any (group_does t) (groups_of_head 2 g.view.buds)) s.base
+    ∙ ap (λ (gs : List (List Carried)). list_any (group_does t) (groups_of_head 1 f.view.buds) || list_any (group_does t) gs) s.data_nodes
 
 synced_as : (m k : Store) (f g : Faced) → SameGone m k f g → (t : Change → Bool) → some_synced_does t g.synced g.view.buds ≡ some_synced_does t f.synced f.view.buds
 synced_as m k f g s t =
-    ap (λ (gs : List (List Carried)). list_any (group_does t) (take (get_or g.synced 1 0) gs) || list_any (group_does t) (take (get_or g.synced 2 0) (groups_of 2 g.view.buds))) s.base
-    ∙ ap (λ (gs : List (List Carried)). list_any (group_does t) (take (get_or g.synced 1 0) (groups_of 1 f.view.buds)) || list_any (group_does t) (take (get_or g.synced 2 0) gs)) s.data_nodes
-    ∙ ap (λ (n : ℕ). list_any (group_does t) (take n (groups_of 1 f.view.buds)) || list_any (group_does t) (take (get_or g.synced 2 0) (groups_of 2 f.view.buds))) s.base_synced
-    ∙ ap (λ (n : ℕ). list_any (group_does t) (take (get_or f.synced 1 0) (groups_of 1 f.view.buds)) || list_any (group_does t) (take n (groups_of 2 f.view.buds))) s.data_synced
+    ap (λ (gs : List (List Carried)). list_any (group_does t) (take (get_or g.synced 1 0) gs) || list_any (group_does t) (take (get_or g.synced 2 0) (groups_of_head 2 g.view.buds))) s.base
+    ∙ ap (λ (gs : List (List Carried)). list_any (group_does t) (take (get_or g.synced 1 0) (groups_of_head 1 f.view.buds)) || list_any (group_does t) (take (get_or g.synced 2 0) gs)) s.data_nodes
+    ∙ ap (λ (n : ℕ). list_any (group_does t) (take n (groups_of_head 1 f.view.buds)) || list_any (group_does t) (take (get_or g.synced 2 0) (groups_of_head 2 f.view.buds))) s.base_synced
+    ∙ ap (λ (n : ℕ). list_any (group_does t) (take (get_or f.synced 1 0) (groups_of_head 1 f.view.buds)) || list_any (group_does t) (take n (groups_of_head 2 f.view.buds))) s.data_synced
 
 name_as : (m k : Store) (f g : Faced) (o : Orphan) → SameGone m k f g → LostItsName f o → LostItsName g o
 name_as m k f g o s (inl (un, does)) = inl (un, does_as m k f g s (drops_inode o.ino) ∙ does)
@@ -90,8 +90,8 @@ plain_gone m k tree held orphans now synced h = same_gone m k (faced_now m) (fac
   orphans = orphans;
   kept = ap (λ v. v.kept) now;
   committed = ap (λ v. v.tree) now;
-  base = ap (λ v. groups_of 1 v.buds) now;
-  data_nodes = ap (λ v. groups_of 2 v.buds) now;
+  base = ap (λ v. groups_of_head 1 v.buds) now;
+  data_nodes = ap (λ v. groups_of_head 2 v.buds) now;
   base_synced = ap (λ (s : List ℕ). get_or s 1 0) synced;
   data_synced = ap (λ (s : List ℕ). get_or s 2 0) synced;
 }) h
@@ -121,17 +121,17 @@ offer_gone m h = (plain_gone m (offer m) refl refl refl refl refl h.0, by m.next
     by (Some next) g = same_gone m (offer m) (faced_later m next) (faced_later (offer m) (offered next)) (record { tree = refl; held = refl; orphans = refl; kept = refl; committed = refl; base = refl; data_nodes = refl; base_synced = refl; data_synced = refl }) g
 
 -- of a running commit's view as much is synced, where both views got as many groups
-later_base : (m k : Store) (next after : Next) → k.synced ≡ m.synced → groups_of 1 k.now.buds ≡ groups_of 1 m.now.buds → groups_of 1 after.view.buds ≡ groups_of 1 next.view.buds → get_or (synced_since k after) 1 0 ≡ get_or (synced_since m next) 1 0
+later_base : (m k : Store) (next after : Next) → k.synced ≡ m.synced → groups_of_head 1 k.now.buds ≡ groups_of_head 1 m.now.buds → groups_of_head 1 after.view.buds ≡ groups_of_head 1 next.view.buds → get_or (synced_since k after) 1 0 ≡ get_or (synced_since m next) 1 0
 later_base m k next after synced all last =
-    one_less k.synced _ _ _ ∙ ap (λ (s : List ℕ). get_or s 1 0 - (length (groups_of 1 k.now.buds) - length (groups_of 1 after.view.buds))) synced
-    ∙ ap (λ (gs : List (List Carried)). get_or m.synced 1 0 - (length gs - length (groups_of 1 after.view.buds))) all
-    ∙ ap (λ (gs : List (List Carried)). get_or m.synced 1 0 - (length (groups_of 1 m.now.buds) - length gs)) last ∙ sym (one_less m.synced _ _ _)
+    one_less k.synced _ _ _ ∙ ap (λ (s : List ℕ). get_or s 1 0 - (length (groups_of_head 1 k.now.buds) - length (groups_of_head 1 after.view.buds))) synced
+    ∙ ap (λ (gs : List (List Carried)). get_or m.synced 1 0 - (length gs - length (groups_of_head 1 after.view.buds))) all
+    ∙ ap (λ (gs : List (List Carried)). get_or m.synced 1 0 - (length (groups_of_head 1 m.now.buds) - length gs)) last ∙ sym (one_less m.synced _ _ _)
 
-later_data : (m k : Store) (next after : Next) → k.synced ≡ m.synced → groups_of 2 k.now.buds ≡ groups_of 2 m.now.buds → groups_of 2 after.view.buds ≡ groups_of 2 next.view.buds → get_or (synced_since k after) 2 0 ≡ get_or (synced_since m next) 2 0
+later_data : (m k : Store) (next after : Next) → k.synced ≡ m.synced → groups_of_head 2 k.now.buds ≡ groups_of_head 2 m.now.buds → groups_of_head 2 after.view.buds ≡ groups_of_head 2 next.view.buds → get_or (synced_since k after) 2 0 ≡ get_or (synced_since m next) 2 0
 later_data m k next after synced all last =
-    two_less k.synced _ _ _ ∙ ap (λ (s : List ℕ). get_or s 2 0 - (length (groups_of 2 k.now.buds) - length (groups_of 2 after.view.buds))) synced
-    ∙ ap (λ (gs : List (List Carried)). get_or m.synced 2 0 - (length gs - length (groups_of 2 after.view.buds))) all
-    ∙ ap (λ (gs : List (List Carried)). get_or m.synced 2 0 - (length (groups_of 2 m.now.buds) - length gs)) last ∙ sym (two_less m.synced _ _ _)
+    two_less k.synced _ _ _ ∙ ap (λ (s : List ℕ). get_or s 2 0 - (length (groups_of_head 2 k.now.buds) - length (groups_of_head 2 after.view.buds))) synced
+    ∙ ap (λ (gs : List (List Carried)). get_or m.synced 2 0 - (length gs - length (groups_of_head 2 after.view.buds))) all
+    ∙ ap (λ (gs : List (List Carried)). get_or m.synced 2 0 - (length (groups_of_head 2 m.now.buds) - length gs)) last ∙ sym (two_less m.synced _ _ _)
 
 pub open_gone : (m : Store) (head lnum : ℕ) → OfBoth m (HasGone m) → OfBoth (open_leb head lnum m) (HasGone (open_leb head lnum m))
 open_gone m head lnum h = (same_gone m k (faced_now m) (faced_now k) (record { tree = refl; held = refl; orphans = refl; kept = refl; committed = refl; base = groups_open 1 head lnum m.now.buds; data_nodes = groups_open 2 head lnum m.now.buds; base_synced = refl; data_synced = refl }) h.0, by m.next h.1)
@@ -183,13 +183,13 @@ each_map P Q f more [] h = tt
 each_map P Q f more (o ∷ os) h = (more o h.0, each_map P Q f more os h.1)
 
 first_does : (t : Change → Bool) (synced : List ℕ) (buds : List Bud) → some_synced_does t synced buds ≡ true → some_does t buds ≡ true
-first_does t synced buds h = by (either_of (list_any (group_does t) (take (get_or synced 1 0) (groups_of 1 buds))) (list_any (group_does t) (take (get_or synced 2 0) (groups_of 2 buds))) h)
+first_does t synced buds h = by (either_of (list_any (group_does t) (take (get_or synced 1 0) (groups_of_head 1 buds))) (list_any (group_does t) (take (get_or synced 2 0) (groups_of_head 2 buds))) h)
   where
-    by : (list_any (group_does t) (take (get_or synced 1 0) (groups_of 1 buds)) ≡ true) ⊎ (list_any (group_does t) (take (get_or synced 2 0) (groups_of 2 buds)) ≡ true) → some_does t buds ≡ true
-    by (inl e) = or_left (list_any (group_does t) (groups_of 1 buds)) (list_any (group_does t) (groups_of 2 buds)) (any_first (group_does t) (get_or synced 1 0) (groups_of 1 buds) e)
-    by (inr e) = or_right (list_any (group_does t) (groups_of 1 buds)) (list_any (group_does t) (groups_of 2 buds)) (any_first (group_does t) (get_or synced 2 0) (groups_of 2 buds) e)
+    by : (list_any (group_does t) (take (get_or synced 1 0) (groups_of_head 1 buds)) ≡ true) ⊎ (list_any (group_does t) (take (get_or synced 2 0) (groups_of_head 2 buds)) ≡ true) → some_does t buds ≡ true
+    by (inl e) = or_left (list_any (group_does t) (groups_of_head 1 buds)) (list_any (group_does t) (groups_of_head 2 buds)) (any_first (group_does t) (get_or synced 1 0) (groups_of_head 1 buds) e)
+    by (inr e) = or_right (list_any (group_does t) (groups_of_head 1 buds)) (list_any (group_does t) (groups_of_head 2 buds)) (any_first (group_does t) (get_or synced 2 0) (groups_of_head 2 buds) e)
 
-sync_name : (f g : Faced) (o : Orphan) → g.view ≡ f.view → get_or g.synced 1 0 ≡ length (groups_of 1 g.view.buds) → get_or g.synced 2 0 ≡ length (groups_of 2 g.view.buds) → LostItsName f o → LostItsName g (synced_orphan o)
+sync_name : (f g : Faced) (o : Orphan) → g.view ≡ f.view → get_or g.synced 1 0 ≡ length (groups_of_head 1 g.view.buds) → get_or g.synced 2 0 ≡ length (groups_of_head 2 g.view.buds) → LostItsName f o → LostItsName g (synced_orphan o)
 sync_name f g o same one two (inl (un, does)) = inr (refl, inl (all_does (drops_inode o.ino) g.view.buds g.synced one two (ap (λ v. some_does (drops_inode o.ino) v.buds) same ∙ does)))
 sync_name f g o same one two (inr (is, inl does)) = inr (refl, inl (all_does (drops_inode o.ino) g.view.buds g.synced one two (ap (λ v. some_does (drops_inode o.ino) v.buds) same ∙ first_does (drops_inode o.ino) f.synced f.view.buds does)))
 sync_name f g o same one two (inr (is, inr lost)) = inr (refl, inr (ap (λ v. is_nameless v.tree o.ino) same ∙ lost))
@@ -241,7 +241,7 @@ each_other P t (o ∷ os) h = by (t o) (each_other P t os h.1)
     by true rest = (h.0, rest)
     by false rest = rest
 
-drop_face : (m : Store) (ino : ℕ) (index : Index) (f : Faced) → CanDrop m ino index → IsProper m.tree → HasGone m f → HasGone (drop_inode ino index m) f
+drop_face : (m : Store) (ino : ℕ) (index : StoreIndex) (f : Faced) → CanDrop m ino index → IsProper m.tree → HasGone m f → HasGone (drop_inode ino index m) f
 drop_face m ino index f can proper h = record {
   lost = more_orphans (is_lost m.tree) (is_lost (without_inode m.tree ino)) (λ n e. lost_drop m.tree ino n proper e) f.view.kept h.lost;
   unset = h.unset;
@@ -264,7 +264,7 @@ drop_face m ino index f can proper h = record {
     by true e = h.held
     by false e = each_both P m.held (filter (is_gone (DropInode ino)) m.live) h.held (all_gone (unsynced_there f ino m.orphans h.orphans can.orphan e) m.live)
 
-pub drop_gone : (m : Store) (ino : ℕ) (index : Index) → CanDrop m ino index → IsProper m.tree → OfBoth m (HasGone m) → OfBoth (drop_inode ino index m) (HasGone (drop_inode ino index m))
+pub drop_gone : (m : Store) (ino : ℕ) (index : StoreIndex) → CanDrop m ino index → IsProper m.tree → OfBoth m (HasGone m) → OfBoth (drop_inode ino index m) (HasGone (drop_inode ino index m))
 drop_gone m ino index can proper h = (drop_face m ino index (faced_now m) can proper h.0, by m.next h.1)
   where
     k : Store
@@ -317,7 +317,7 @@ start_gone m taken can s = (
     began = record { view = view_now m taken; taken = taken; written = 0; listed = next_list m; offered = false }
 
     none : (n : ℕ) → some_does (sets_inode n) (open_buds 0 m.ends) ≡ false
-    none n = ap (λ (gs : List (List Carried)). list_any (group_does (sets_inode n)) gs || list_any (group_does (sets_inode n)) (groups_of 2 (open_buds 0 m.ends))) (no_groups 1 0 m.ends) ∙ ap (list_any (group_does (sets_inode n))) (no_groups 2 0 m.ends)
+    none n = ap (λ (gs : List (List Carried)). list_any (group_does (sets_inode n)) gs || list_any (group_does (sets_inode n)) (groups_of_head 2 (open_buds 0 m.ends))) (no_groups 1 0 m.ends) ∙ ap (list_any (group_does (sets_inode n))) (no_groups 2 0 m.ends)
 
 -- ---- it ends
 pub end_gone : (m : Store) (next : Option Next) → m.next ≡ next → OfBoth m (HasGone m) → OfBoth (end_commit m next) (HasGone (end_commit m next))

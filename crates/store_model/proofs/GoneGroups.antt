@@ -9,7 +9,7 @@ use Rattle.fs_model.specs.Recovery.{as_replayed, KeepsSynced, Numbered, taken}
 use Rattle.leaf_map.specs.Allowed.{sets_inode}
 use Rattle.store_model.specs.Fits.{IsUnset}
 use Rattle.store_model.specs.Gone.{group_does, some_does, some_synced_does}
-use Rattle.store_model.specs.Heads.{groups_of, heads_of, numbered}
+use Rattle.store_model.specs.Heads.{groups_of_head, heads_of, numbered_group}
 use Rattle.store_model.specs.Store.{Bud, Carried}
 use Rattle.store_model.proofs.RecoveryCopies.{either_of}
 use Rattle.store_model.proofs.RecoveryOrder.{or_left, or_right}
@@ -49,16 +49,16 @@ none_all t (x ∷ xs) h =
     and_from (not (t x)) (list_all (λ x. not (t x)) xs) (ap not p.0) (none_all t xs p.1)
 
 -- ---- the changes of groups
-numbered_does : (t : Change → Bool) (group : List Carried) → list_any (λ c. t (as_replayed c.1)) (numbered group) ≡ group_does t group
+numbered_does : (t : Change → Bool) (group : List Carried) → list_any (λ c. t (as_replayed c.1)) (numbered_group group) ≡ group_does t group
 numbered_does t [] = refl
 numbered_does t (c ∷ group) = ap (λ (b : Bool). t (as_replayed c.change) || b) (numbered_does t group)
 
-pub groups_do : (t : Change → Bool) (n : ℕ) (groups : List (List Carried)) → list_any (λ c. t (as_replayed c.1)) (flat_map (λ group. group) (take n (map numbered groups))) ≡ list_any (group_does t) (take n groups)
+pub groups_do : (t : Change → Bool) (n : ℕ) (groups : List (List Carried)) → list_any (λ c. t (as_replayed c.1)) (flat_map (λ group. group) (take n (map numbered_group groups))) ≡ list_any (group_does t) (take n groups)
 groups_do t zero groups = refl
 groups_do t (suc n) [] = refl
 groups_do t (suc n) (group ∷ groups) =
-    list_any-append (λ (c : ℕ × Change). t (as_replayed c.1)) (numbered group) (flat_map (λ group. group) (take n (map numbered groups)))
-    ∙ ap (λ (b : Bool). b || list_any (λ c. t (as_replayed c.1)) (flat_map (λ group. group) (take n (map numbered groups)))) (numbered_does t group)
+    list_any-append (λ (c : ℕ × Change). t (as_replayed c.1)) (numbered_group group) (flat_map (λ group. group) (take n (map numbered_group groups)))
+    ∙ ap (λ (b : Bool). b || list_any (λ c. t (as_replayed c.1)) (flat_map (λ group. group) (take n (map numbered_group groups)))) (numbered_does t group)
     ∙ ap (λ (b : Bool). group_does t group || b) (groups_do t n groups)
 
 -- what a cut leaves of both heads, as it is in the lists
@@ -69,8 +69,8 @@ both_do t a b p q e f =
     ∙ ap (λ (z : Bool). p || z) (list_any-append (λ (c : ℕ × Change). t (as_replayed c.1)) b [] ∙ ap (λ (z : Bool). z || false) f)
 
 pub taken_does : (t : Change → Bool) (buds : List Bud) (synced : List ℕ) (n k : ℕ)
-    → list_any (λ c. t (as_replayed c.1)) (taken (heads_of buds synced) (0 ∷ n ∷ k ∷ [])) ≡ (list_any (group_does t) (take n (groups_of 1 buds)) || (list_any (group_does t) (take k (groups_of 2 buds)) || false))
-taken_does t buds synced n k = both_do t (flat_map (λ group. group) (take n (map numbered (groups_of 1 buds)))) (flat_map (λ group. group) (take k (map numbered (groups_of 2 buds)))) _ _ (groups_do t n (groups_of 1 buds)) (groups_do t k (groups_of 2 buds))
+    → list_any (λ c. t (as_replayed c.1)) (taken (heads_of buds synced) (0 ∷ n ∷ k ∷ [])) ≡ (list_any (group_does t) (take n (groups_of_head 1 buds)) || (list_any (group_does t) (take k (groups_of_head 2 buds)) || false))
+taken_does t buds synced n k = both_do t (flat_map (λ group. group) (take n (map numbered_group (groups_of_head 1 buds)))) (flat_map (λ group. group) (take k (map numbered_group (groups_of_head 2 buds)))) _ _ (groups_do t n (groups_of_head 1 buds)) (groups_do t k (groups_of_head 2 buds))
 
 -- ---- whatever a cut leaves, it has what is synced
 pub synced_does : (t : Change → Bool) (buds : List Bud) (synced : List ℕ) → some_synced_does t synced buds ≡ true → (counts : List ℕ) → KeepsSynced (heads_of buds synced) counts
@@ -80,17 +80,17 @@ synced_does t buds synced h (x ∷ []) (l, g, rest) = absurd rest
 synced_does t buds synced h (x ∷ y ∷ []) (l, g, (m, i, rest)) = absurd rest
 synced_does t buds synced h (x ∷ y ∷ z ∷ w ∷ counts) (l, g, (m, i, (n, j, rest))) = absurd rest
 synced_does t buds synced h (suc x ∷ y ∷ z ∷ []) (l, g, rest) = absurd (omega (arith, g))
-synced_does t buds synced h (zero ∷ y ∷ z ∷ []) (l, g, (m, i, (n, j, rest))) = taken_does t buds synced y z ∙ by (either_of (list_any (group_does t) (take (get_or synced 1 0) (groups_of 1 buds))) (list_any (group_does t) (take (get_or synced 2 0) (groups_of 2 buds))) h)
+synced_does t buds synced h (zero ∷ y ∷ z ∷ []) (l, g, (m, i, (n, j, rest))) = taken_does t buds synced y z ∙ by (either_of (list_any (group_does t) (take (get_or synced 1 0) (groups_of_head 1 buds))) (list_any (group_does t) (take (get_or synced 2 0) (groups_of_head 2 buds))) h)
   where
     first : Bool
-    first = list_any (group_does t) (take y (groups_of 1 buds))
+    first = list_any (group_does t) (take y (groups_of_head 1 buds))
 
     second : Bool
-    second = list_any (group_does t) (take z (groups_of 2 buds))
+    second = list_any (group_does t) (take z (groups_of_head 2 buds))
 
-    by : (list_any (group_does t) (take (get_or synced 1 0) (groups_of 1 buds)) ≡ true) ⊎ (list_any (group_does t) (take (get_or synced 2 0) (groups_of 2 buds)) ≡ true) → (first || (second || false)) ≡ true
-    by (inl e) = or_left first (second || false) (any_up (group_does t) (get_or synced 1 0) y (groups_of 1 buds) m e)
-    by (inr e) = or_right first (second || false) (or_left second false (any_up (group_does t) (get_or synced 2 0) z (groups_of 2 buds) n e))
+    by : (list_any (group_does t) (take (get_or synced 1 0) (groups_of_head 1 buds)) ≡ true) ⊎ (list_any (group_does t) (take (get_or synced 2 0) (groups_of_head 2 buds)) ≡ true) → (first || (second || false)) ≡ true
+    by (inl e) = or_left first (second || false) (any_up (group_does t) (get_or synced 1 0) y (groups_of_head 1 buds) m e)
+    by (inr e) = or_right first (second || false) (or_left second false (any_up (group_does t) (get_or synced 2 0) z (groups_of_head 2 buds) n e))
 
 -- and no more than was put
 pub none_sets : (buds : List Bud) (synced : List ℕ) (ino : ℕ) → not (some_does (sets_inode ino) buds) ≡ true → IsUnset (heads_of buds synced) ino
@@ -101,9 +101,9 @@ none_sets buds synced ino h (x ∷ y ∷ z ∷ w ∷ counts) (l, g, (m, i, (n, j
 none_sets buds synced ino h (suc x ∷ y ∷ z ∷ []) (l, g, rest) = absurd (omega (arith, g))
 none_sets buds synced ino h (zero ∷ y ∷ z ∷ []) keeps =
     let t : Change → Bool = sets_inode ino in
-    let p = or_false (list_any (group_does t) (groups_of 1 buds)) (list_any (group_does t) (groups_of 2 buds)) (is_false (some_does t buds) h) in
+    let p = or_false (list_any (group_does t) (groups_of_head 1 buds)) (list_any (group_does t) (groups_of_head 2 buds)) (is_false (some_does t buds) h) in
     none_all (λ (c : ℕ × Change). t (as_replayed c.1)) (taken (heads_of buds synced) (0 ∷ y ∷ z ∷ []))
-    (taken_does t buds synced y z ∙ ap (λ (b : Bool). b || (list_any (group_does t) (take z (groups_of 2 buds)) || false)) (none_first (group_does t) y (groups_of 1 buds) p.0) ∙ ap (λ (b : Bool). b || false) (none_first (group_does t) z (groups_of 2 buds) p.1))
+    (taken_does t buds synced y z ∙ ap (λ (b : Bool). b || (list_any (group_does t) (take z (groups_of_head 2 buds)) || false)) (none_first (group_does t) y (groups_of_head 1 buds) p.0) ∙ ap (λ (b : Bool). b || false) (none_first (group_does t) z (groups_of_head 2 buds) p.1))
   where
     is_false : (b : Bool) → not b ≡ true → b ≡ false
     is_false true e = absurd (false≢true e)

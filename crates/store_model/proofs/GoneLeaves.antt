@@ -15,15 +15,15 @@ use Rattle.fs_model.specs.Recovery.{as_replayed}
 use Rattle.leaf_map.specs.After.{goes, is_gone}
 use Rattle.leaf_map.specs.Allowed.{sets_inode}
 use Rattle.leaf_map.specs.Kept.{Kept, shown_by}
-use Rattle.leaf_map.specs.Shown.{inodes_of, with_inode}
+use Rattle.leaf_map.specs.Shown.{inodes_of, with_shown_inode}
 use Rattle.store_model.specs.Events.{drop_inode, is_synced_orphan, sync}
-use Rattle.store_model.specs.Fits.{AreOfListed, Faced, faced_now, is_of_listed, IsLeft, IsOfNameless, StaysNameless}
+use Rattle.store_model.specs.Fits.{AreOfListed, Faced, faced_now, is_of_listed, IsLeafLeft, IsOfNameless, StaysNameless}
 use Rattle.store_model.specs.Gone.{drops_inode, group_does, LostItsName, some_does, some_synced_does}
-use Rattle.store_model.specs.Heads.{changes_of, copies_of, counts_of, groups_of, synced_since}
-use Rattle.store_model.specs.Invariant.{AreAccountedFor, AreOrphans, faced_later, HasCommitted, HasGone, HasSince, HaveOrphans, is_listed, IsAccountedFor, IsMoved, IsSince, IsStore, KeepOrphans, OfBoth, OfNext}
+use Rattle.store_model.specs.Heads.{changes_of, copies_of, head_counts, groups_of_head, synced_since}
+use Rattle.store_model.specs.Invariant.{AreAccountedFor, AreViewOrphans, faced_later, HasCommittedView, HasGone, HasSince, HaveOrphans, is_listed, IsAccountedFor, IsMoved, IsSince, IsStore, KeepOrphans, OfBoth, OfNext}
 use Rattle.store_model.specs.Lebs.{is_among}
 use Rattle.store_model.specs.Legal.{IsLeafOf}
-use Rattle.store_model.specs.Store.{Bud, Carried, Index, Moving, Next, Orphan, Store}
+use Rattle.store_model.specs.Store.{Bud, Carried, StoreIndex, Moving, Next, Orphan, Store}
 use Rattle.store_model.proofs.BegunEvents.{one_less, two_less}
 use Rattle.store_model.proofs.CopiedLeaves.{each_of}
 use Rattle.store_model.proofs.GoneGroups.{none_sets, synced_does}
@@ -36,15 +36,15 @@ use Rattle.store_model.proofs.WholeSteps.{sync_left, sync_left_later}
 
 -- ---- a sync
 -- all groups are synced then
-pub all_does : (t : Change → Bool) (buds : List Bud) (synced : List ℕ) → get_or synced 1 0 ≡ length (groups_of 1 buds) → get_or synced 2 0 ≡ length (groups_of 2 buds) → some_does t buds ≡ true → some_synced_does t synced buds ≡ true
+pub all_does : (t : Change → Bool) (buds : List Bud) (synced : List ℕ) → get_or synced 1 0 ≡ length (groups_of_head 1 buds) → get_or synced 2 0 ≡ length (groups_of_head 2 buds) → some_does t buds ≡ true → some_synced_does t synced buds ≡ true
 all_does t buds synced one two h =
-    ap (λ (n : ℕ). list_any (group_does t) (take n (groups_of 1 buds)) || list_any (group_does t) (take (get_or synced 2 0) (groups_of 2 buds))) one
-    ∙ ap (λ (n : ℕ). list_any (group_does t) (take (length (groups_of 1 buds)) (groups_of 1 buds)) || list_any (group_does t) (take n (groups_of 2 buds))) two
-    ∙ ap (λ (gs : List (List Carried)). list_any (group_does t) gs || list_any (group_does t) (take (length (groups_of 2 buds)) (groups_of 2 buds))) (take_all (length (groups_of 1 buds)) (groups_of 1 buds) (omega arith))
-    ∙ ap (λ (gs : List (List Carried)). list_any (group_does t) (groups_of 1 buds) || list_any (group_does t) gs) (take_all (length (groups_of 2 buds)) (groups_of 2 buds) (omega arith)) ∙ h
+    ap (λ (n : ℕ). list_any (group_does t) (take n (groups_of_head 1 buds)) || list_any (group_does t) (take (get_or synced 2 0) (groups_of_head 2 buds))) one
+    ∙ ap (λ (n : ℕ). list_any (group_does t) (take (length (groups_of_head 1 buds)) (groups_of_head 1 buds)) || list_any (group_does t) (take n (groups_of_head 2 buds))) two
+    ∙ ap (λ (gs : List (List Carried)). list_any (group_does t) gs || list_any (group_does t) (take (length (groups_of_head 2 buds)) (groups_of_head 2 buds))) (take_all (length (groups_of_head 1 buds)) (groups_of_head 1 buds) (omega arith))
+    ∙ ap (λ (gs : List (List Carried)). list_any (group_does t) (groups_of_head 1 buds) || list_any (group_does t) gs) (take_all (length (groups_of_head 2 buds)) (groups_of_head 2 buds) (omega arith)) ∙ h
 
 -- what is held is touched by the groups that are synced now
-held_left : (m : Store) (f g : Faced) (x : Kept) → HasGone m f → g.view.buds ≡ f.view.buds → get_or g.synced 1 0 ≡ length (groups_of 1 g.view.buds) → get_or g.synced 2 0 ≡ length (groups_of 2 g.view.buds) → IsLeafOf m.held x → IsLeft g x
+held_left : (m : Store) (f g : Faced) (x : Kept) → HasGone m f → g.view.buds ≡ f.view.buds → get_or g.synced 1 0 ≡ length (groups_of_head 1 g.view.buds) → get_or g.synced 2 0 ≡ length (groups_of_head 2 g.view.buds) → IsLeafOf m.held x → IsLeafLeft g x
 held_left m f g x gone same one two held =
     let touched = each_of (λ y. some_does (λ change. is_gone change y) f.view.buds ≡ true) m.held x gone.held held in
     inr (inl (synced_does (λ change. is_gone change x) g.view.buds g.synced (all_does (λ change. is_gone change x) g.view.buds g.synced one two (subst (λ (bs : List Bud). some_does (λ change. is_gone change x) bs ≡ true) (sym same) touched))))
@@ -52,7 +52,7 @@ held_left m f g x gone same one two held =
 pub last_all : (all last : ℕ) → last ≤ all → all - (all - last) ≡ last
 last_all all last h = omega (arith, h)
 
-sync_one : (m : Store) (f g : Faced) (x : Kept) → HasGone m f → g.view.buds ≡ f.view.buds → get_or g.synced 1 0 ≡ length (groups_of 1 g.view.buds) → get_or g.synced 2 0 ≡ length (groups_of 2 g.view.buds) → (IsMoved m.moving f x → IsMoved m.moving g x) → (IsLeft f x → IsLeft g x)
+sync_one : (m : Store) (f g : Faced) (x : Kept) → HasGone m f → g.view.buds ≡ f.view.buds → get_or g.synced 1 0 ≡ length (groups_of_head 1 g.view.buds) → get_or g.synced 2 0 ≡ length (groups_of_head 2 g.view.buds) → (IsMoved m.moving f x → IsMoved m.moving g x) → (IsLeafLeft f x → IsLeafLeft g x)
     → IsAccountedFor m f x → IsAccountedFor (sync m) g x
 sync_one m f g x gone same one two moved left (inl live) = inl live
 sync_one m f g x gone same one two moved left (inr (inl held)) = inr (inr (inr (held_left m f g x gone same one two held)))
@@ -62,11 +62,11 @@ sync_one m f g x gone same one two moved left (inr (inr (inr h))) = inr (inr (in
 no_longer : (xs ys before : List (List Carried)) → xs ≡ before ++ ys → length ys ≤ length xs
 no_longer xs ys before e = let n = ap length e ∙ length-append before ys in omega (arith, n)
 
-pub since_base : (m : Store) (next : Next) → IsSince m next.view → get_or (synced_since (sync m) next) 1 0 ≡ length (groups_of 1 next.view.buds)
-since_base m next since = one_less (counts_of m.now.buds) (length (copies_of m.now.buds) - length (copies_of next.view.buds)) (length (groups_of 1 m.now.buds) - length (groups_of 1 next.view.buds)) (length (groups_of 2 m.now.buds) - length (groups_of 2 next.view.buds)) ∙ last_all (length (groups_of 1 m.now.buds)) (length (groups_of 1 next.view.buds)) (no_longer (groups_of 1 m.now.buds) (groups_of 1 next.view.buds) since.base.before since.base.is)
+pub since_base : (m : Store) (next : Next) → IsSince m next.view → get_or (synced_since (sync m) next) 1 0 ≡ length (groups_of_head 1 next.view.buds)
+since_base m next since = one_less (head_counts m.now.buds) (length (copies_of m.now.buds) - length (copies_of next.view.buds)) (length (groups_of_head 1 m.now.buds) - length (groups_of_head 1 next.view.buds)) (length (groups_of_head 2 m.now.buds) - length (groups_of_head 2 next.view.buds)) ∙ last_all (length (groups_of_head 1 m.now.buds)) (length (groups_of_head 1 next.view.buds)) (no_longer (groups_of_head 1 m.now.buds) (groups_of_head 1 next.view.buds) since.base.before since.base.is)
 
-pub since_data : (m : Store) (next : Next) → IsSince m next.view → get_or (synced_since (sync m) next) 2 0 ≡ length (groups_of 2 next.view.buds)
-since_data m next since = two_less (counts_of m.now.buds) (length (copies_of m.now.buds) - length (copies_of next.view.buds)) (length (groups_of 1 m.now.buds) - length (groups_of 1 next.view.buds)) (length (groups_of 2 m.now.buds) - length (groups_of 2 next.view.buds)) ∙ last_all (length (groups_of 2 m.now.buds)) (length (groups_of 2 next.view.buds)) (no_longer (groups_of 2 m.now.buds) (groups_of 2 next.view.buds) since.data_nodes.before since.data_nodes.is)
+pub since_data : (m : Store) (next : Next) → IsSince m next.view → get_or (synced_since (sync m) next) 2 0 ≡ length (groups_of_head 2 next.view.buds)
+since_data m next since = two_less (head_counts m.now.buds) (length (copies_of m.now.buds) - length (copies_of next.view.buds)) (length (groups_of_head 1 m.now.buds) - length (groups_of_head 1 next.view.buds)) (length (groups_of_head 2 m.now.buds) - length (groups_of_head 2 next.view.buds)) ∙ last_all (length (groups_of_head 2 m.now.buds)) (length (groups_of_head 2 next.view.buds)) (no_longer (groups_of_head 2 m.now.buds) (groups_of_head 2 next.view.buds) since.data_nodes.before since.data_nodes.is)
 
 pub sync_accounted : (m : Store) → IsStore m → OfBoth (sync m) (AreAccountedFor (sync m))
 sync_accounted m s = (
@@ -91,7 +91,7 @@ sync_accounted m s = (
 
 -- ---- an orphan is dropped
 -- a committed inode without links passes the test that all of them pass
-lost_passes : (test : ℕ → Bool) (q : ℕ) (s : Option Change) (rest : Inodes) → has_none (lookup (is_at (nat_cmp q)) (with_inode s rest)) ≡ true → is_listed test s ≡ true → (has_none (lookup (is_at (nat_cmp q)) rest) ≡ true → test q ≡ true) → test q ≡ true
+lost_passes : (test : ℕ → Bool) (q : ℕ) (s : Option Change) (rest : Inodes) → has_none (lookup (is_at (nat_cmp q)) (with_shown_inode s rest)) ≡ true → is_listed test s ≡ true → (has_none (lookup (is_at (nat_cmp q)) rest) ≡ true → test q ≡ true) → test q ≡ true
 lost_passes test q (Some (SetInode ino inode)) rest h on more = by (is_at (nat_cmp q) ino) refl h (inode.nlink == 0) refl on
   where
     by : (b : Bool) → is_at (nat_cmp q) ino ≡ b → has_none (cond b (Some inode) (lookup (is_at (nat_cmp q)) rest)) ≡ true → (z : Bool) → (inode.nlink == 0) ≡ z → (not z || test ino) ≡ true → test q ≡ true
@@ -112,10 +112,10 @@ leaf_passes test q (x ∷ kept) h on =
     lost_passes test q (shown_by x) (inodes_of kept) h p.0 (λ g. leaf_passes test q kept g p.1)
 
 -- a committed inode without a name
-pub committed_lost : (test : ℕ → Bool) (f : Faced) (q : ℕ) → HasCommitted f.view → AreOrphans test f.view → is_nameless f.view.tree q ≡ true → test q ≡ true
+pub committed_lost : (test : ℕ → Bool) (f : Faced) (q : ℕ) → HasCommittedView f.view → AreViewOrphans test f.view → is_nameless f.view.tree q ≡ true → test q ≡ true
 committed_lost test f q has on lost = leaf_passes test q f.view.kept (subst (λ (t : Tree). is_nameless t q ≡ true) (sym has.tree) lost) on
 
-lists_have : (f : Faced) (lists : List (List ℕ)) (ino : ℕ) (x : Kept) → HasCommitted f.view → HaveOrphans f lists → is_nameless f.view.tree ino ≡ true → ((list : List ℕ) → is_among list ino ≡ true → is_of_listed list (shown_by x) ≡ true) → AreOfListed lists x
+lists_have : (f : Faced) (lists : List (List ℕ)) (ino : ℕ) (x : Kept) → HasCommittedView f.view → HaveOrphans f lists → is_nameless f.view.tree ino ≡ true → ((list : List ℕ) → is_among list ino ≡ true → is_of_listed list (shown_by x) ≡ true) → AreOfListed lists x
 lists_have f [] ino x has on lost of = tt
 lists_have f (list ∷ lists) ino x has on lost of = (of list (committed_lost (is_among list) f ino has on.0 lost), lists_have f lists ino x has on.1 lost of)
 
@@ -158,13 +158,13 @@ either_more a b p q f g h = by (either_of a b h)
 
 pub some_more : (p q : Change → Bool) → ((c : Change) → p c ≡ true → q c ≡ true) → (buds : List Bud) → some_does p buds ≡ true → some_does q buds ≡ true
 some_more p q more buds h =
-    either_more (list_any (group_does p) (groups_of 1 buds)) (list_any (group_does p) (groups_of 2 buds)) (list_any (group_does q) (groups_of 1 buds)) (list_any (group_does q) (groups_of 2 buds))
-    (any_more (group_does p) (group_does q) (group_more p q more) (groups_of 1 buds)) (any_more (group_does p) (group_does q) (group_more p q more) (groups_of 2 buds)) h
+    either_more (list_any (group_does p) (groups_of_head 1 buds)) (list_any (group_does p) (groups_of_head 2 buds)) (list_any (group_does q) (groups_of_head 1 buds)) (list_any (group_does q) (groups_of_head 2 buds))
+    (any_more (group_does p) (group_does q) (group_more p q more) (groups_of_head 1 buds)) (any_more (group_does p) (group_does q) (group_more p q more) (groups_of_head 2 buds)) h
 
 synced_more : (p q : Change → Bool) → ((c : Change) → p c ≡ true → q c ≡ true) → (synced : List ℕ) (buds : List Bud) → some_synced_does p synced buds ≡ true → some_synced_does q synced buds ≡ true
 synced_more p q more synced buds h =
-    let one : List (List Carried) = take (get_or synced 1 0) (groups_of 1 buds) in
-    let two : List (List Carried) = take (get_or synced 2 0) (groups_of 2 buds) in
+    let one : List (List Carried) = take (get_or synced 1 0) (groups_of_head 1 buds) in
+    let two : List (List Carried) = take (get_or synced 2 0) (groups_of_head 2 buds) in
     either_more (list_any (group_does p) one) (list_any (group_does p) two) (list_any (group_does q) one) (list_any (group_does q) two)
     (any_more (group_does p) (group_does q) (group_more p q more) one) (any_more (group_does p) (group_does q) (group_more p q more) two) h
 
@@ -185,10 +185,10 @@ orphan_there f ino (o ∷ orphans) h on = by (λ more. orphan_there f ino orphan
     by rest (inl e) = let p = and_parts (o.ino == ino) o.synced e in here (eqb-true o.ino ino p.0) p.1 h.0
     by rest (inr e) = rest e
 
-dropped_left : (m : Store) (f : Faced) (ino : ℕ) (x : Kept) → HasGone m f → HasCommitted f.view → HaveOrphans f f.lists → is_synced_orphan m.orphans ino ≡ true → is_gone (DropInode ino) x ≡ true → IsLeft f x
+dropped_left : (m : Store) (f : Faced) (ino : ℕ) (x : Kept) → HasGone m f → HasCommittedView f.view → HaveOrphans f f.lists → is_synced_orphan m.orphans ino ≡ true → is_gone (DropInode ino) x ≡ true → IsLeafLeft f x
 dropped_left m f ino x gone has on synced goes_too = by (orphan_there f ino m.orphans gone.orphans synced)
   where
-    by : (some_synced_does (drops_inode ino) f.synced f.view.buds ≡ true) ⊎ (is_nameless f.view.tree ino ≡ true) → IsLeft f x
+    by : (some_synced_does (drops_inode ino) f.synced f.view.buds ≡ true) ⊎ (is_nameless f.view.tree ino ≡ true) → IsLeafLeft f x
     by (inl does) = inr (inl (synced_does (λ change. is_gone change x) f.view.buds f.synced (synced_more (drops_inode ino) (λ change. is_gone change x) (λ c d. drops_leaf ino x c goes_too d) f.synced f.view.buds does)))
     by (inr lost) =
         let stays : StaysNameless f ino = (lost, none_sets f.view.buds f.synced ino (committed_lost (λ ino. not (some_does (sets_inode ino) f.view.buds)) f ino has gone.unset lost)) in
@@ -213,7 +213,7 @@ leaf_first [] ys x h = absurd h
 leaf_first (y ∷ xs) ys x (inl e) = inl e
 leaf_first (y ∷ xs) ys x (inr h) = inr (leaf_first xs ys x h)
 
-drop_one : (m : Store) (ino : ℕ) (index : Index) (f g : Faced) (x : Kept) → HasGone m f → HasCommitted f.view → HaveOrphans f f.lists → (IsMoved m.moving f x → IsMoved m.moving g x) → (IsLeft f x → IsLeft g x) → IsAccountedFor m f x → IsAccountedFor (drop_inode ino index m) g x
+drop_one : (m : Store) (ino : ℕ) (index : StoreIndex) (f g : Faced) (x : Kept) → HasGone m f → HasCommittedView f.view → HaveOrphans f f.lists → (IsMoved m.moving f x → IsMoved m.moving g x) → (IsLeafLeft f x → IsLeafLeft g x) → IsAccountedFor m f x → IsAccountedFor (drop_inode ino index m) g x
 drop_one m ino index f g x gone has on moved left (inl live) = by (is_gone (DropInode ino) x) refl (is_synced_orphan m.orphans ino) refl
   where
     k : Store
@@ -231,7 +231,7 @@ drop_one m ino index f g x gone has on moved left (inr (inl held)) = inr (inl (b
 drop_one m ino index f g x gone has on moved left (inr (inr (inl h))) = inr (inr (inl (moved h)))
 drop_one m ino index f g x gone has on moved left (inr (inr (inr h))) = inr (inr (inr (left h)))
 
-pub drop_accounted : (m : Store) (ino : ℕ) (index : Index) → IsStore m → OfBoth (drop_inode ino index m) (AreAccountedFor (drop_inode ino index m))
+pub drop_accounted : (m : Store) (ino : ℕ) (index : StoreIndex) → IsStore m → OfBoth (drop_inode ino index m) (AreAccountedFor (drop_inode ino index m))
 drop_accounted m ino index s = (
   each_weaker (IsAccountedFor m (faced_now m)) (IsAccountedFor k (faced_now k)) (λ x g. drop_one m ino index (faced_now m) (faced_now k) x s.gone.0 s.views.committed.0 (have_orphans_now m s.orphans) (moved_as x m.moving) (λ left. left) g) m.now.kept s.accounted.0,
   by m.next s.gone.1 s.views.committed.1 s.orphans.later s.accounted.1,
@@ -248,6 +248,6 @@ drop_accounted m ino index s = (
     later_as next x None h = h
     later_as next x (Some moving) h = h
 
-    by : (next : Option Next) → OfNext m next (HasGone m) → OfNext m next (λ f. HasCommitted f.view) → KeepOrphans m next → OfNext m next (AreAccountedFor m) → OfNext k next (AreAccountedFor k)
+    by : (next : Option Next) → OfNext m next (HasGone m) → OfNext m next (λ f. HasCommittedView f.view) → KeepOrphans m next → OfNext m next (AreAccountedFor m) → OfNext k next (AreAccountedFor k)
     by None gone has on h = tt
     by (Some next) gone has on h = each_weaker (IsAccountedFor m (faced_later m next)) (IsAccountedFor k (faced_later k next)) (λ x g. drop_one m ino index (faced_later m next) (faced_later k next) x gone has (on.1, tt) (later_as next x m.moving) (λ left. left) g) next.view.kept h

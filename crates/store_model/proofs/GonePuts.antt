@@ -18,10 +18,10 @@ use Rattle.leaf_map.specs.Kept.{Kept, shown_by}
 use Rattle.store_model.specs.Events.{after_change, after_part, end_at, Held, in_next, orphan_in, Part}
 use Rattle.store_model.specs.Fits.{Faced, faced_now}
 use Rattle.store_model.specs.Gone.{drops_inode, group_does, is_lost, LostItsName, some_does, some_synced_does}
-use Rattle.store_model.specs.Heads.{changes_of, groups_of, has_bud, with_group}
-use Rattle.store_model.specs.Invariant.{AreApart, faced_later, HasGone, HasSince, is_listed, IsSince, OfBoth, OfNext}
+use Rattle.store_model.specs.Heads.{changes_of, groups_of_head, has_bud, with_head_group}
+use Rattle.store_model.specs.Invariant.{AreRolesApart, faced_later, HasGone, HasSince, is_listed, IsSince, OfBoth, OfNext}
 use Rattle.store_model.specs.Lebs.{is_among}
-use Rattle.store_model.specs.Legal.{FitHead, IsPart}
+use Rattle.store_model.specs.Legal.{FitHead, IsLegalPart}
 use Rattle.store_model.specs.Store.{At, Bud, Carried, Next, Orphan, Store}
 use Rattle.store_model.proofs.Apart.{groups_other}
 use Rattle.store_model.proofs.BackingPuts.{groups_added, has_last}
@@ -38,9 +38,9 @@ use Rattle.store_model.proofs.RecoveryOrder.{or_left, or_right}
 -- groups come behind those that are there, and as much is synced
 pub record HasGrown (f g : Faced) (group : List Carried) : Type 0 where
   pub base : List (List Carried)
-  pub base_is : groups_of 1 g.view.buds ≡ groups_of 1 f.view.buds ++ base
+  pub base_is : groups_of_head 1 g.view.buds ≡ groups_of_head 1 f.view.buds ++ base
   pub data_nodes : List (List Carried)
-  pub data_is : groups_of 2 g.view.buds ≡ groups_of 2 f.view.buds ++ data_nodes
+  pub data_is : groups_of_head 2 g.view.buds ≡ groups_of_head 2 f.view.buds ++ data_nodes
   pub base_synced : get_or g.synced 1 0 ≡ get_or f.synced 1 0
   pub data_synced : get_or g.synced 2 0 ≡ get_or f.synced 2 0
   pub tree : g.view.tree ≡ f.view.tree
@@ -71,35 +71,35 @@ grown_data t group a b p q e f =
     ap (λ (gs : List (List Carried)). list_any (group_does t) gs || list_any (group_does t) q) e ∙ ap (λ (gs : List (List Carried)). list_any (group_does t) a || list_any (group_does t) gs) f
     ∙ ap (λ (z : Bool). list_any (group_does t) a || z) (list_any-append (group_does t) b (group ∷ [])) ∙ turn_data (list_any (group_does t) a) (group_does t group) (list_any (group_does t) b)
 
-grown : (f g : Faced) (head : ℕ) (group : List Carried) → (head ≡ 1) ⊎ (head ≡ 2) → has_bud head f.view.buds ≡ true → g.view.buds ≡ with_group head group f.view.buds → g.view.tree ≡ f.view.tree → g.view.kept ≡ f.view.kept
+grown : (f g : Faced) (head : ℕ) (group : List Carried) → (head ≡ 1) ⊎ (head ≡ 2) → has_bud head f.view.buds ≡ true → g.view.buds ≡ with_head_group head group f.view.buds → g.view.tree ≡ f.view.tree → g.view.kept ≡ f.view.kept
     → get_or g.synced 1 0 ≡ get_or f.synced 1 0 → get_or g.synced 2 0 ≡ get_or f.synced 2 0 → HasGrown f g group
 grown f g head group (inl e) has buds tree kept one two =
-    let first : groups_of 1 g.view.buds ≡ groups_of 1 f.view.buds ++ group ∷ [] = ap (groups_of 1) buds ∙ subst (λ (k : ℕ). groups_of k (with_group head group f.view.buds) ≡ groups_of k f.view.buds ++ group ∷ []) e (groups_added head group f.view.buds has) in
-    let second : groups_of 2 g.view.buds ≡ groups_of 2 f.view.buds = ap (groups_of 2) buds ∙ groups_other 2 head group f.view.buds (ap (λ (k : ℕ). k == 2) e) in
+    let first : groups_of_head 1 g.view.buds ≡ groups_of_head 1 f.view.buds ++ group ∷ [] = ap (groups_of_head 1) buds ∙ subst (λ (k : ℕ). groups_of_head k (with_head_group head group f.view.buds) ≡ groups_of_head k f.view.buds ++ group ∷ []) e (groups_added head group f.view.buds has) in
+    let second : groups_of_head 2 g.view.buds ≡ groups_of_head 2 f.view.buds = ap (groups_of_head 2) buds ∙ groups_other 2 head group f.view.buds (ap (λ (k : ℕ). k == 2) e) in
     record {
       base = group ∷ [];
       base_is = first;
       data_nodes = [];
-      data_is = second ∙ sym (append-nil (groups_of 2 f.view.buds));
+      data_is = second ∙ sym (append-nil (groups_of_head 2 f.view.buds));
       base_synced = one;
       data_synced = two;
       tree = tree;
       kept = kept;
-      does = λ t. grown_base t group (groups_of 1 f.view.buds) (groups_of 2 f.view.buds) (groups_of 1 g.view.buds) (groups_of 2 g.view.buds) first second;
+      does = λ t. grown_base t group (groups_of_head 1 f.view.buds) (groups_of_head 2 f.view.buds) (groups_of_head 1 g.view.buds) (groups_of_head 2 g.view.buds) first second;
     }
 grown f g head group (inr e) has buds tree kept one two =
-    let first : groups_of 1 g.view.buds ≡ groups_of 1 f.view.buds = ap (groups_of 1) buds ∙ groups_other 1 head group f.view.buds (ap (λ (k : ℕ). k == 1) e) in
-    let second : groups_of 2 g.view.buds ≡ groups_of 2 f.view.buds ++ group ∷ [] = ap (groups_of 2) buds ∙ subst (λ (k : ℕ). groups_of k (with_group head group f.view.buds) ≡ groups_of k f.view.buds ++ group ∷ []) e (groups_added head group f.view.buds has) in
+    let first : groups_of_head 1 g.view.buds ≡ groups_of_head 1 f.view.buds = ap (groups_of_head 1) buds ∙ groups_other 1 head group f.view.buds (ap (λ (k : ℕ). k == 1) e) in
+    let second : groups_of_head 2 g.view.buds ≡ groups_of_head 2 f.view.buds ++ group ∷ [] = ap (groups_of_head 2) buds ∙ subst (λ (k : ℕ). groups_of_head k (with_head_group head group f.view.buds) ≡ groups_of_head k f.view.buds ++ group ∷ []) e (groups_added head group f.view.buds has) in
     record {
       base = [];
-      base_is = first ∙ sym (append-nil (groups_of 1 f.view.buds));
+      base_is = first ∙ sym (append-nil (groups_of_head 1 f.view.buds));
       data_nodes = group ∷ [];
       data_is = second;
       base_synced = one;
       data_synced = two;
       tree = tree;
       kept = kept;
-      does = λ t. grown_data t group (groups_of 1 f.view.buds) (groups_of 2 f.view.buds) (groups_of 1 g.view.buds) (groups_of 2 g.view.buds) first second;
+      does = λ t. grown_data t group (groups_of_head 1 f.view.buds) (groups_of_head 2 f.view.buds) (groups_of_head 1 g.view.buds) (groups_of_head 2 g.view.buds) first second;
     }
 
 -- of what came since a commit began as much is synced: both views got the group
@@ -108,24 +108,24 @@ same_rest s a b p q (inl (e, f)) = omega (arith, e, f)
 same_rest s a b p q (inr (e, f)) = omega (arith, e, f)
 
 lengths : (head k : ℕ) (group : List Carried) (old new : List Bud) → has_bud head old ≡ true → has_bud head new ≡ true
-    → (length (groups_of k (with_group head group old)) ≡ length (groups_of k old)) × (length (groups_of k (with_group head group new)) ≡ length (groups_of k new))
-    ⊎ (length (groups_of k (with_group head group old)) ≡ length (groups_of k old) + 1) × (length (groups_of k (with_group head group new)) ≡ length (groups_of k new) + 1)
+    → (length (groups_of_head k (with_head_group head group old)) ≡ length (groups_of_head k old)) × (length (groups_of_head k (with_head_group head group new)) ≡ length (groups_of_head k new))
+    ⊎ (length (groups_of_head k (with_head_group head group old)) ≡ length (groups_of_head k old) + 1) × (length (groups_of_head k (with_head_group head group new)) ≡ length (groups_of_head k new) + 1)
 lengths head k group old new in_old in_new = by (head == k) refl
   where
-    more : (buds : List Bud) → has_bud head buds ≡ true → head ≡ k → length (groups_of k (with_group head group buds)) ≡ length (groups_of k buds) + 1
-    more buds has e = ap length (subst (λ (i : ℕ). groups_of i (with_group head group buds) ≡ groups_of i buds ++ group ∷ []) e (groups_added head group buds has)) ∙ length-append (groups_of k buds) (group ∷ [])
+    more : (buds : List Bud) → has_bud head buds ≡ true → head ≡ k → length (groups_of_head k (with_head_group head group buds)) ≡ length (groups_of_head k buds) + 1
+    more buds has e = ap length (subst (λ (i : ℕ). groups_of_head i (with_head_group head group buds) ≡ groups_of_head i buds ++ group ∷ []) e (groups_added head group buds has)) ∙ length-append (groups_of_head k buds) (group ∷ [])
 
     by : (b : Bool) → (head == k) ≡ b
-        → (length (groups_of k (with_group head group old)) ≡ length (groups_of k old)) × (length (groups_of k (with_group head group new)) ≡ length (groups_of k new))
-        ⊎ (length (groups_of k (with_group head group old)) ≡ length (groups_of k old) + 1) × (length (groups_of k (with_group head group new)) ≡ length (groups_of k new) + 1)
+        → (length (groups_of_head k (with_head_group head group old)) ≡ length (groups_of_head k old)) × (length (groups_of_head k (with_head_group head group new)) ≡ length (groups_of_head k new))
+        ⊎ (length (groups_of_head k (with_head_group head group old)) ≡ length (groups_of_head k old) + 1) × (length (groups_of_head k (with_head_group head group new)) ≡ length (groups_of_head k new) + 1)
     by true e = inr (more old in_old (eqb-true head k e), more new in_new (eqb-true head k e))
     by false e = inl (ap length (groups_other k head group old e), ap length (groups_other k head group new e))
 
-pub grown_now : (m : Store) (part : Part) (at : At) → IsPart m part → AreApart m → end_at m.ends part.head ≡ Some at → HasGrown (faced_now m) (faced_now (after_part m part)) part.group
+pub grown_now : (m : Store) (part : Part) (at : At) → IsLegalPart m part → AreRolesApart m → end_at m.ends part.head ≡ Some at → HasGrown (faced_now m) (faced_now (after_part m part)) part.group
 grown_now m part at is a e = grown (faced_now m) (faced_now (after_part m part)) part.head part.group is.head (has_last m.now.buds part.head at.lnum (end_bud m.now.buds 0 part.head part.head m.ends at (omega arith) a.ends e)) refl refl refl refl refl
 
-pub grown_later : (m : Store) (part : Part) (at : At) (next : Next) → IsPart m part → AreApart m → IsSince m next.view → end_at m.ends part.head ≡ Some at
-    → HasGrown (faced_later m next) (faced_later (after_part m part) (in_next (with_group part.head part.group) (length part.group) next)) part.group
+pub grown_later : (m : Store) (part : Part) (at : At) (next : Next) → IsLegalPart m part → AreRolesApart m → IsSince m next.view → end_at m.ends part.head ≡ Some at
+    → HasGrown (faced_later m next) (faced_later (after_part m part) (in_next (with_head_group part.head part.group) (length part.group) next)) part.group
 grown_later m part at next is a s e = grown (faced_later m next) (faced_later k after) part.head part.group is.head new refl refl refl
     (one_less m.synced _ _ _ ∙ same_rest (get_or m.synced 1 0) _ _ _ _ (lengths part.head 1 part.group m.now.buds next.view.buds old new) ∙ sym (one_less m.synced _ _ _))
     (two_less m.synced _ _ _ ∙ same_rest (get_or m.synced 2 0) _ _ _ _ (lengths part.head 2 part.group m.now.buds next.view.buds old new) ∙ sym (two_less m.synced _ _ _))
@@ -134,7 +134,7 @@ grown_later m part at next is a s e = grown (faced_later m next) (faced_later k 
     k = after_part m part
 
     after : Next
-    after = in_next (with_group part.head part.group) (length part.group) next
+    after = in_next (with_head_group part.head part.group) (length part.group) next
 
     old : has_bud part.head m.now.buds ≡ true
     old = has_last m.now.buds part.head at.lnum (end_bud m.now.buds 0 part.head part.head m.ends at (omega arith) a.ends e)
@@ -157,10 +157,10 @@ first_grown t n k a b more e f h = ap (λ (i : ℕ). list_any t (take i b)) e �
 
 pub synced_grown : (f g : Faced) (group : List Carried) (t : Change → Bool) → HasGrown f g group → some_synced_does t f.synced f.view.buds ≡ true → some_synced_does t g.synced g.view.buds ≡ true
 synced_grown f g group t s h =
-    either_more (list_any (group_does t) (take (get_or f.synced 1 0) (groups_of 1 f.view.buds))) (list_any (group_does t) (take (get_or f.synced 2 0) (groups_of 2 f.view.buds)))
-    (list_any (group_does t) (take (get_or g.synced 1 0) (groups_of 1 g.view.buds))) (list_any (group_does t) (take (get_or g.synced 2 0) (groups_of 2 g.view.buds)))
-    (first_grown (group_does t) (get_or f.synced 1 0) (get_or g.synced 1 0) (groups_of 1 f.view.buds) (groups_of 1 g.view.buds) s.base s.base_synced s.base_is)
-    (first_grown (group_does t) (get_or f.synced 2 0) (get_or g.synced 2 0) (groups_of 2 f.view.buds) (groups_of 2 g.view.buds) s.data_nodes s.data_synced s.data_is) h
+    either_more (list_any (group_does t) (take (get_or f.synced 1 0) (groups_of_head 1 f.view.buds))) (list_any (group_does t) (take (get_or f.synced 2 0) (groups_of_head 2 f.view.buds)))
+    (list_any (group_does t) (take (get_or g.synced 1 0) (groups_of_head 1 g.view.buds))) (list_any (group_does t) (take (get_or g.synced 2 0) (groups_of_head 2 g.view.buds)))
+    (first_grown (group_does t) (get_or f.synced 1 0) (get_or g.synced 1 0) (groups_of_head 1 f.view.buds) (groups_of_head 1 g.view.buds) s.base s.base_synced s.base_is)
+    (first_grown (group_does t) (get_or f.synced 2 0) (get_or g.synced 2 0) (groups_of_head 2 f.view.buds) (groups_of_head 2 g.view.buds) s.data_nodes s.data_synced s.data_is) h
 
 name_grown : (f g : Faced) (group : List Carried) (o : Orphan) → HasGrown f g group → LostItsName f o → LostItsName g o
 name_grown f g group o s (inl (un, does)) = inl (un, s.does (drops_inode o.ino) ∙ or_left (some_does (drops_inode o.ino) f.view.buds) (group_does (drops_inode o.ino) group) does)
@@ -255,7 +255,7 @@ neither : (a b : Bool) → not a ≡ true → b ≡ false → not (a || b) ≡ t
 neither true b h e = absurd (false≢true h)
 neither false b h e = ap not e
 
-part_face : (m : Store) (part : Part) (f g : Faced) → IsPart m part → IsProper m.tree → map (λ orphan. orphan.ino) m.orphans ≡ nameless m.tree → HasGrown f g part.group → HasGone m f → HasGone (after_part m part) g
+part_face : (m : Store) (part : Part) (f g : Faced) → IsLegalPart m part → IsProper m.tree → map (λ orphan. orphan.ino) m.orphans ≡ nameless m.tree → HasGrown f g part.group → HasGone m f → HasGone (after_part m part) g
 part_face m part f g is proper names s h = record {
   lost = subst (λ (kept : List Kept). list_all (λ x. is_listed (is_lost after) (shown_by x)) kept ≡ true) (sym s.kept) (more_orphans (is_lost m.tree) (is_lost after) (λ n e. (lost n e).0) f.view.kept h.lost);
   unset = subst (λ (kept : List Kept). list_all (λ x. is_listed (λ ino. not (some_does (sets_inode ino) g.view.buds)) (shown_by x)) kept ≡ true) (sym s.kept)
@@ -281,15 +281,15 @@ part_face m part f g is proper names s h = record {
         let new = group_newly (changes_of part.group) m.tree n un (listed_nameless after.inodes n is.keeps.proper.inodes_ascend among) in
         inl (refl, s.does (drops_inode n) ∙ or_right (some_does (drops_inode n) f.view.buds) (group_does (drops_inode n) part.group) new)
 
-pub part_gone : (m : Store) (part : Part) → IsPart m part → IsProper m.tree → map (λ orphan. orphan.ino) m.orphans ≡ nameless m.tree → AreApart m → HasSince m m.next → OfBoth m (HasGone m) → OfBoth (after_part m part) (HasGone (after_part m part))
+pub part_gone : (m : Store) (part : Part) → IsLegalPart m part → IsProper m.tree → map (λ orphan. orphan.ino) m.orphans ≡ nameless m.tree → AreRolesApart m → HasSince m m.next → OfBoth m (HasGone m) → OfBoth (after_part m part) (HasGone (after_part m part))
 part_gone m part is proper names a since h = by (end_at m.ends part.head) refl is.fits
   where
     k : Store
     k = after_part m part
 
-    later : (at : At) → end_at m.ends part.head ≡ Some at → (next : Option Next) → HasSince m next → OfNext m next (HasGone m) → OfNext k (option_map (in_next (with_group part.head part.group) (length part.group)) next) (HasGone k)
+    later : (at : At) → end_at m.ends part.head ≡ Some at → (next : Option Next) → HasSince m next → OfNext m next (HasGone m) → OfNext k (option_map (in_next (with_head_group part.head part.group) (length part.group)) next) (HasGone k)
     later at e None s g = tt
-    later at e (Some next) s g = part_face m part (faced_later m next) (faced_later k (in_next (with_group part.head part.group) (length part.group) next)) is proper names (grown_later m part at next is a s e) g
+    later at e (Some next) s g = part_face m part (faced_later m next) (faced_later k (in_next (with_head_group part.head part.group) (length part.group) next)) is proper names (grown_later m part at next is a s e) g
 
     by : (o : Option At) → end_at m.ends part.head ≡ o → FitHead m o (map (λ c. c.placed) part.group) → OfBoth k (HasGone k)
     by None e fits = absurd fits

@@ -10,14 +10,14 @@ use Rattle.fs_model.specs.declared.space.Grant.{Grant}
 use Rattle.fs_model.specs.declared.space.Need.{Need}
 use Rattle.fs_model.specs.declared.space.Space.{Space}
 use Rattle.fs_model.specs.Settled.{IsCovered}
-use Rattle.space_budget.specs.Books.{AreGrantsCovered, group_need}
+use Rattle.space_budget.specs.Books.{AreGrantsCovered, next_group_need}
 use Rattle.space_sums.specs.Spaces.{HasRoom, IsAfterGroup, IsAfterPage, IsNoMore}
 use Rattle.store_model.specs.Backing.{book_of}
 use Rattle.store_model.specs.Events.{after_part, credit, drop_inode, free_victim, granted, node_items, open_leb, paid, Part, Payment, put, Putting, start, sync, view_branchings, write_index}
-use Rattle.store_model.specs.Invariant.{AreApart}
+use Rattle.store_model.specs.Invariant.{AreRolesApart}
 use Rattle.store_model.specs.Lebs.{has_role, is_among, is_role, space_of}
-use Rattle.store_model.specs.Legal.{CanStart, IsPaid, need_of, nodes_of}
-use Rattle.store_model.specs.Store.{Index, Leb, Moving, Next, Store}
+use Rattle.store_model.specs.Legal.{CanStart, IsPaid, need_of_grant, nodes_of_parts}
+use Rattle.store_model.specs.Store.{StoreIndex, Leb, Moving, Next, Store}
 use Rattle.store_model.proofs.LebCollections.{free_row, free_rows}
 use Rattle.store_model.proofs.LebCounts.{count_rows, drop_index, open_index, row_count, sync_index, sync_rows}
 use Rattle.store_model.proofs.LebDrops.{dropped_store}
@@ -50,7 +50,7 @@ same_roles role g all same (r ∷ rs) at =
 role_same : (role : LebKind) (g : Row → Row) (a b : List Leb) → rows a ≡ map g (rows b) → ((r : Row) → IsRowIn (rows b) r → is_role role (g r).1 ≡ is_role role r.1) → row_count role (rows a) ≡ row_count role (rows b)
 role_same role g a b e same = ap (row_count role) e ∙ same_roles role g (rows b) same (rows b) (all_in (rows b))
 
-pub start_index : (m : Store) (taken : List ℕ) → CanStart m taken → AreApart m → (space_of (start taken m)).index ≡ (space_of m).index
+pub start_index : (m : Store) (taken : List ℕ) → CanStart m taken → AreRolesApart m → (space_of (start taken m)).index ≡ (space_of m).index
 start_index m taken can a =
     count_rows kind.Index (start taken m).lebs ∙ role_same kind.Index (take_row taken) (start taken m).lebs m.lebs (take_rows taken m.lebs) (λ r there. by r there (is_among taken r.0) refl) ∙ sym (count_rows kind.Index m.lebs)
   where
@@ -61,7 +61,7 @@ start_index m taken can a =
     by r there true e = ap (is_role kind.Index) (one_role kind.Free r.1 (rows m.lebs) r.0 (to_rows m a).numbers (taken_free (rows m.lebs) taken r.0 free e) there)
     by r there false e = refl
 
-pub free_index : (m : Store) (moving : Moving) → m.moving ≡ Some moving → AreApart m → (space_of (free_victim m (Some moving))).index ≡ (space_of m).index
+pub free_index : (m : Store) (moving : Moving) → m.moving ≡ Some moving → AreRolesApart m → (space_of (free_victim m (Some moving))).index ≡ (space_of m).index
 free_index m moving is a =
     count_rows kind.Index (free_victim m (Some moving)).lebs
     ∙ role_same kind.Index (free_row moving.victim) (free_victim m (Some moving)).lebs m.lebs (free_rows moving.victim m.lebs) (λ r there. by r there (r.0 == moving.victim) refl) ∙ sym (count_rows kind.Index m.lebs)
@@ -87,10 +87,10 @@ GroupLaw = (geo : RawGeometry) (old new : Space) (grant : Need) → IsAfterGroup
 
 covered_still : NoMoreLaw → (m k : Store) → k.geo ≡ m.geo → k.grant ≡ m.grant → IsNoMore (space_of m) (space_of k) → AreGrantsCovered (book_of m) → AreGrantsCovered (book_of k)
 covered_still law m k geo grant less c = record {
-  room = subst (λ (g : RawGeometry). HasRoom g (space_of k) (group_need k.grant)) (sym geo) (subst (λ (o : Option Grant). HasRoom m.geo (space_of k) (group_need o)) (sym grant) (law m.geo (space_of m) (space_of k) (group_need m.grant) less c.room));
+  room = subst (λ (g : RawGeometry). HasRoom g (space_of k) (next_group_need k.grant)) (sym geo) (subst (λ (o : Option Grant). HasRoom m.geo (space_of k) (next_group_need o)) (sym grant) (law m.geo (space_of m) (space_of k) (next_group_need m.grant) less c.room));
 }
 
-pub open_covered : NoMoreLaw → (m : Store) (head lnum : ℕ) → has_role kind.Free m.lebs lnum ≡ true → AreApart m → AreGrantsCovered (book_of m) → AreGrantsCovered (book_of (open_leb head lnum m))
+pub open_covered : NoMoreLaw → (m : Store) (head lnum : ℕ) → has_role kind.Free m.lebs lnum ≡ true → AreRolesApart m → AreGrantsCovered (book_of m) → AreGrantsCovered (book_of (open_leb head lnum m))
 open_covered law m head lnum empty a = covered_still law m (open_leb head lnum m) refl refl (record {
   bytes = omega arith;
   credits = refl;
@@ -108,7 +108,7 @@ sync_covered law m = covered_still law m (sync m) refl refl (record {
   main = same_main _ (sync m).lebs m.lebs (sync_rows m);
 })
 
-pub drop_covered : NoMoreLaw → (m : Store) (ino : ℕ) (index : Index) → (space_of (drop_inode ino index m)).used + (space_of (drop_inode ino index m)).held ≤ (space_of m).used + (space_of m).held
+pub drop_covered : NoMoreLaw → (m : Store) (ino : ℕ) (index : StoreIndex) → (space_of (drop_inode ino index m)).used + (space_of (drop_inode ino index m)).held ≤ (space_of m).used + (space_of m).held
     → AreGrantsCovered (book_of m) → AreGrantsCovered (book_of (drop_inode ino index m))
 drop_covered law m ino index bytes = covered_still law m (drop_inode ino index m) refl refl (record {
   bytes = bytes;
@@ -118,7 +118,7 @@ drop_covered law m ino index bytes = covered_still law m (drop_inode ino index m
   main = same_main _ (drop_inode ino index m).lebs m.lebs (freed_rows (dropped_store ino index m) m.lebs);
 })
 
-pub start_covered : NoMoreLaw → (m : Store) (taken : List ℕ) → CanStart m taken → AreApart m → AreGrantsCovered (book_of m) → AreGrantsCovered (book_of (start taken m))
+pub start_covered : NoMoreLaw → (m : Store) (taken : List ℕ) → CanStart m taken → AreRolesApart m → AreGrantsCovered (book_of m) → AreGrantsCovered (book_of (start taken m))
 start_covered law m taken can a = covered_still law m (start taken m) refl refl (record {
   bytes = omega arith;
   credits = refl;
@@ -127,7 +127,7 @@ start_covered law m taken can a = covered_still law m (start taken m) refl refl 
   main = same_main (take_row taken) (start taken m).lebs m.lebs (take_rows taken m.lebs);
 })
 
-pub free_covered : NoMoreLaw → (m : Store) (moving : Option Moving) → m.moving ≡ moving → AreApart m → AreGrantsCovered (book_of m) → AreGrantsCovered (book_of (free_victim m moving))
+pub free_covered : NoMoreLaw → (m : Store) (moving : Option Moving) → m.moving ≡ moving → AreRolesApart m → AreGrantsCovered (book_of m) → AreGrantsCovered (book_of (free_victim m moving))
 free_covered law m None is a c = c
 free_covered law m (Some moving) is a c = covered_still law m (free_victim m (Some moving)) refl refl (record {
   bytes = omega arith;
@@ -140,14 +140,14 @@ free_covered law m (Some moving) is a c = covered_still law m (free_victim m (So
 -- ---- a put
 pub page_covered : PageLaw → (m k : Store) → k.geo ≡ m.geo → k.grant ≡ m.grant → IsAfterPage (space_of m) (space_of k) → AreGrantsCovered (book_of m) → AreGrantsCovered (book_of k)
 page_covered law m k geo grant after c = record {
-  room = subst (λ (g : RawGeometry). HasRoom g (space_of k) (group_need k.grant)) (sym geo) (subst (λ (o : Option Grant). HasRoom m.geo (space_of k) (group_need o)) (sym grant) (law m.geo (space_of m) (space_of k) (group_need m.grant) after c.room));
+  room = subst (λ (g : RawGeometry). HasRoom g (space_of k) (next_group_need k.grant)) (sym geo) (subst (λ (o : Option Grant). HasRoom m.geo (space_of k) (next_group_need o)) (sym grant) (law m.geo (space_of m) (space_of k) (next_group_need m.grant) after c.room));
 }
 
-pub group_covered : GroupLaw → (m k : Store) (grant : Grant) → k.geo ≡ m.geo → m.grant ≡ Some grant → k.grant ≡ None → IsAfterGroup (need_of grant) (space_of m) (space_of k) → AreGrantsCovered (book_of m) → AreGrantsCovered (book_of k)
+pub group_covered : GroupLaw → (m k : Store) (grant : Grant) → k.geo ≡ m.geo → m.grant ≡ Some grant → k.grant ≡ None → IsAfterGroup (need_of_grant grant) (space_of m) (space_of k) → AreGrantsCovered (book_of m) → AreGrantsCovered (book_of k)
 group_covered law m k grant geo given none after c =
-    let old : HasRoom m.geo (space_of m) (need_of grant) = subst (λ (o : Option Grant). HasRoom m.geo (space_of m) (group_need o)) given c.room in
-    let fits : IsCovered k.geo (space_of k) = subst (λ (g : RawGeometry). IsCovered g (space_of k)) (sym geo) (law m.geo (space_of m) (space_of k) (need_of grant) after old) in
-    record { room = subst (λ (o : Option Grant). HasRoom k.geo (space_of k) (group_need o)) (sym none) (record { fits = fits.fits }) }
+    let old : HasRoom m.geo (space_of m) (need_of_grant grant) = subst (λ (o : Option Grant). HasRoom m.geo (space_of m) (next_group_need o)) given c.room in
+    let fits : IsCovered k.geo (space_of k) = subst (λ (g : RawGeometry). IsCovered g (space_of k)) (sym geo) (law m.geo (space_of m) (space_of k) (need_of_grant grant) after old) in
+    record { room = subst (λ (o : Option Grant). HasRoom k.geo (space_of k) (next_group_need o)) (sym none) (record { fits = fits.fits }) }
 
 parts_grant : (parts : List Part) (m : Store) → (fold after_part m parts).grant ≡ m.grant
 parts_grant [] m = refl
@@ -161,14 +161,14 @@ put_geo m p = by p.payment ∙ parts_geo p.parts m
     by granted = refl
 
 -- a put, whatever pays
-pub put_covered : PageLaw → GroupLaw → (m : Store) (p : Putting) → IsPaid m p.payment (nodes_of p.parts) → (p.payment ≡ credit → IsAfterPage (space_of m) (space_of (put p m)))
-    → ((grant : Grant) → p.payment ≡ granted → m.grant ≡ Some grant → IsAfterGroup (need_of grant) (space_of m) (space_of (put p m))) → AreGrantsCovered (book_of m) → AreGrantsCovered (book_of (put p m))
+pub put_covered : PageLaw → GroupLaw → (m : Store) (p : Putting) → IsPaid m p.payment (nodes_of_parts p.parts) → (p.payment ≡ credit → IsAfterPage (space_of m) (space_of (put p m)))
+    → ((grant : Grant) → p.payment ≡ granted → m.grant ≡ Some grant → IsAfterGroup (need_of_grant grant) (space_of m) (space_of (put p m))) → AreGrantsCovered (book_of m) → AreGrantsCovered (book_of (put p m))
 put_covered pages groups m p pays page group c = by p.payment refl pays
   where
     end : Store
     end = fold after_part m p.parts
 
-    by : (payment : Payment) → p.payment ≡ payment → IsPaid m payment (nodes_of p.parts) → AreGrantsCovered (book_of (put p m))
+    by : (payment : Payment) → p.payment ≡ payment → IsPaid m payment (nodes_of_parts p.parts) → AreGrantsCovered (book_of (put p m))
     by credit e pays = page_covered pages m (put p m) (put_geo m p) (ap (λ (payment : Payment). (paid payment end).grant) e ∙ parts_grant p.parts m) (page e) c
     by granted e (grant, is, nodes, bytes) = group_covered groups m (put p m) grant (put_geo m p) is (ap (λ (payment : Payment). (paid payment end).grant) e) (group grant e is) c
 

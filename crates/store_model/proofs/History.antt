@@ -17,10 +17,10 @@ use Rattle.leaf_map.specs.Recovered.{highest_key}
 use Rattle.leaf_map.specs.Shown.{tree_of}
 use Rattle.store_model.specs.Events.{after, after_part, Begin, begin, Copying, credit, Drop, drop_inode, End, end_at, end_commit, Event, Free, free_victim, granted, in_next, Move, move, Offer, offer, offered, Open, open_buds, open_leb, new_bud, paid, Part, Payment, Put, put, Putting, Start, start, Sync, sync, Write, write_index}
 use Rattle.store_model.specs.Fits.{Faced, faced_now}
-use Rattle.store_model.specs.Heads.{changes_of, groups_of, numbered, with_copy, with_group}
-use Rattle.store_model.specs.Invariant.{all_changes, AreApart, AreNumbered, HasCommitted, HasNumbers, HasSince, HasViews, IsStore, LeadsTo, OfBoth, OfNext}
-use Rattle.store_model.specs.Legal.{AreParts, FitHead, IsLegalEvent, IsPart}
-use Rattle.store_model.specs.Store.{At, Bud, Index, Moving, Next, Store, View}
+use Rattle.store_model.specs.Heads.{changes_of, groups_of_head, numbered_group, with_copy, with_head_group}
+use Rattle.store_model.specs.Invariant.{all_changes, AreRolesApart, AreNumbered, HasCommittedView, HasNumbers, HasSince, HasViews, IsStore, LeadsTo, OfBoth, OfNext}
+use Rattle.store_model.specs.Legal.{AreLegalParts, FitHead, IsLegalEvent, IsLegalPart}
+use Rattle.store_model.specs.Store.{At, Bud, StoreIndex, Moving, Next, Store, View}
 use Rattle.store_model.proofs.BackingPuts.{groups_added, has_last}
 use Rattle.store_model.proofs.BackingStarts.{no_groups}
 use Rattle.store_model.proofs.BegunCommits.{low_head}
@@ -71,7 +71,7 @@ same_history tree f g same lists h =
 abbrev pub SortedLaw : Type 0
 SortedLaw = (kept : List Kept) (highest : ℕ) → IsLeafMap kept → IsInOrder (tree_of kept highest)
 
-view_plain : SortedLaw → (view : View) → HasCommitted view → IsPlain view.tree
+view_plain : SortedLaw → (view : View) → HasCommittedView view → IsPlain view.tree
 view_plain sorted view has = record {
   order = subst IsInOrder has.tree (sorted view.kept view.tree.highest has.leaves);
   low = subst (λ (n : ℕ). has_low_inodes n view.tree.inodes ≡ true) has.highest
@@ -99,11 +99,11 @@ are_led sorted m v h = record { plain = plain; next_plain = first m.next v.commi
     plain : IsPlain m.now.tree
     plain = view_plain sorted m.now v.committed.0
 
-    first : (next : Option Next) → OfNext m next (λ f. HasCommitted f.view) → NextPlain next
+    first : (next : Option Next) → OfNext m next (λ f. HasCommittedView f.view) → NextPlain next
     first None c = tt
     first (Some next) c = view_plain sorted next.view c
 
-    then : (next : Option Next) → OfNext m next (λ f. HasCommitted f.view) → OfNext m next (LeadsTo m.tree) → NextLed m.tree next
+    then : (next : Option Next) → OfNext m next (λ f. HasCommittedView f.view) → OfNext m next (LeadsTo m.tree) → NextLed m.tree next
     then None c g = tt
     then (Some next) c g = to_led m.tree (record { view = next.view; synced = []; lists = [] }) (view_plain sorted next.view c) g
 
@@ -138,20 +138,20 @@ split_left committed mark before last long low high =
 
 low_lists : (m : Store) (f : Faced) → AreNumbered m f → AreLow m.sqnum (lists_of f.view.buds)
 low_lists m f n =
-    let one = low_head m.sqnum (groups_of 1 f.view.buds) n.base in
-    let two = low_head m.sqnum (groups_of 2 f.view.buds) n.data_nodes in
+    let one = low_head m.sqnum (groups_of_head 1 f.view.buds) n.base in
+    let two = low_head m.sqnum (groups_of_head 2 f.view.buds) n.data_nodes in
     rw (one, two) refl
 
 -- a group is put to a view
-part_led : (m : Store) (part : Part) (f : Faced) (lnum : ℕ) → IsPart m part → IsProper m.tree → AreNumbered m f → groups_of part.head (with_group part.head part.group f.view.buds) ≡ groups_of part.head f.view.buds ++ part.group ∷ [] → IsPlain f.view.tree
-    → without_nameless (led f.view) ≡ without_nameless m.tree → without_nameless (replayed f.view.tree (in_heads (lists_of (with_group part.head part.group f.view.buds)))) ≡ without_nameless (apply m.tree (changes_of part.group))
+part_led : (m : Store) (part : Part) (f : Faced) (lnum : ℕ) → IsLegalPart m part → IsProper m.tree → AreNumbered m f → groups_of_head part.head (with_head_group part.head part.group f.view.buds) ≡ groups_of_head part.head f.view.buds ++ part.group ∷ [] → IsPlain f.view.tree
+    → without_nameless (led f.view) ≡ without_nameless m.tree → without_nameless (replayed f.view.tree (in_heads (lists_of (with_head_group part.head part.group f.view.buds)))) ≡ without_nameless (apply m.tree (changes_of part.group))
 part_led m part f lnum is proper n added plain h =
     let before : Tree = led f.view in
     let it = put_last m.sqnum part.head part.group f.view.buds is.numbers is.head added in
     ap (λ (z : List (List Numbered)). without_nameless (replayed f.view.tree (in_heads z))) it.lists
     ∙ split_left f.view.tree m.sqnum (lists_of f.view.buds) it.last it.long (low_lists m f n) it.high
     ∙ ap (λ (z : Numbered). without_nameless (replayed before z)) it.alone
-    ∙ ap (λ (z : Numbered). without_nameless (apply before (map (λ c. as_replayed c.1) z))) (in_turn m.sqnum (numbered part.group) is.numbers)
+    ∙ ap (λ (z : Numbered). without_nameless (apply before (map (λ c. as_replayed c.1) z))) (in_turn m.sqnum (numbered_group part.group) is.numbers)
     ∙ ap (λ (z : List Change). without_nameless (apply before z)) (numbered_replayed part.group)
     ∙ (group_beside (changes_of part.group) m.tree before beside is.keeps.revives_none).same
   where
@@ -164,7 +164,7 @@ part_led m part f lnum is proper n added plain h =
       low = all_low (map (λ c. as_replayed c.1) (by_number (in_heads (lists_of f.view.buds)))) f.view.tree plain.low;
     }
 
-one_led : (m : Store) (part : Part) → IsPart m part → IsProper m.tree → AreApart m → HasSince m m.next → HasNumbers m → AreLed m → AreLed (after_part m part)
+one_led : (m : Store) (part : Part) → IsLegalPart m part → IsProper m.tree → AreRolesApart m → HasSince m m.next → HasNumbers m → AreLed m → AreLed (after_part m part)
 one_led m part is proper a since n l = by (end_at m.ends part.head) refl is.fits
   where
     of : (at : At) → end_at m.ends part.head ≡ Some at → AreLed (after_part m part)
@@ -175,12 +175,12 @@ one_led m part is proper a since n l = by (end_at m.ends part.head) refl is.fits
       next = then m.next since n.both.1 l.next_plain l.next;
     }
       where
-        plain : (next : Option Next) → NextPlain next → NextPlain (option_map (in_next (with_group part.head part.group) (length part.group)) next)
+        plain : (next : Option Next) → NextPlain next → NextPlain (option_map (in_next (with_head_group part.head part.group) (length part.group)) next)
         plain None p = tt
         plain (Some next) p = p
 
         then : (next : Option Next) → HasSince m next → OfNext m next (AreNumbered m) → NextPlain next → NextLed m.tree next
-            → NextLed (apply m.tree (changes_of part.group)) (option_map (in_next (with_group part.head part.group) (length part.group)) next)
+            → NextLed (apply m.tree (changes_of part.group)) (option_map (in_next (with_head_group part.head part.group) (length part.group)) next)
         then None s k p h = tt
         then (Some next) s k p h =
             part_led m part (record { view = next.view; synced = []; lists = [] }) at.lnum is proper (record { base = k.base; data_nodes = k.data_nodes; apart = k.apart; kept = k.kept })
@@ -190,12 +190,12 @@ one_led m part is proper a since n l = by (end_at m.ends part.head) refl is.fits
     by None e fits = absurd fits
     by (Some at) e fits = of at e
 
-parts_led : (parts : List Part) (m : Store) → AreParts m parts → IsProper m.tree → AreApart m → HasSince m m.next → HasNumbers m → AreLed m → AreLed (fold after_part m parts)
+parts_led : (parts : List Part) (m : Store) → AreLegalParts m parts → IsProper m.tree → AreRolesApart m → HasSince m m.next → HasNumbers m → AreLed m → AreLed (fold after_part m parts)
 parts_led [] m are proper a since n l = l
 parts_led (part ∷ parts) m are proper a since n l =
     parts_led parts (after_part m part) are.1 are.0.keeps.proper (part_apart m part are.0 a) (part_since m part are.0 a since) (part_numbers m part are.0.head are.0.numbers n) (one_led m part are.0 proper a since n l)
 
-put_history : SortedLaw → (m : Store) (p : Putting) → AreParts m p.parts → IsStore m → OfBoth (put p m) (LeadsTo (put p m).tree)
+put_history : SortedLaw → (m : Store) (p : Putting) → AreLegalParts m p.parts → IsStore m → OfBoth (put p m) (LeadsTo (put p m).tree)
 put_history sorted m p are s = by p.payment (parts_led p.parts m are s.proper_now s.apart s.since s.numbers (are_led sorted m s.views s.history))
   where
     end : Store
@@ -269,7 +269,7 @@ end_history m None e h = h
 end_history m (Some next) e h = (subst (λ (o : Option Next). OfNext m o (LeadsTo m.tree)) e h.1, tt)
 
 -- an inode without a name goes, which no cut leaves
-drop_history : (m : Store) (ino : ℕ) (index : Index) → without_nameless m.tree ≡ without_nameless (drop_inode ino index m).tree → OfBoth m (LeadsTo m.tree) → OfBoth (drop_inode ino index m) (LeadsTo (drop_inode ino index m).tree)
+drop_history : (m : Store) (ino : ℕ) (index : StoreIndex) → without_nameless m.tree ≡ without_nameless (drop_inode ino index m).tree → OfBoth m (LeadsTo m.tree) → OfBoth (drop_inode ino index m) (LeadsTo (drop_inode ino index m).tree)
 drop_history m ino index same h = (h.0 ∙ same, by m.next h.1)
   where
     k : Store

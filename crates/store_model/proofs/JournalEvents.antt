@@ -21,13 +21,13 @@ use Rattle.fs_model.specs.RecoveryLaws.{all_counts, are_high, AreHigh, AreLow, i
 use Rattle.fs_laws.specs.Forgotten.{dropped_forgotten, group_forgotten}
 use Rattle.fs_laws.specs.Maps.{apart, key_cases, missing_first, tail_ascends}
 use Rattle.fs_laws.specs.Orders.{numbers}
-use Rattle.store_model.specs.Begun.{HasBegun, IsBegun, JournalLeads}
+use Rattle.store_model.specs.Begun.{HasBegun, IsCommitBegun, JournalLeads}
 use Rattle.store_model.specs.Events.{after_part, credit, drop_inode, end_at, end_commit, granted, paid, Part, Payment, put, Putting}
 use Rattle.store_model.specs.Fits.{faced_now}
-use Rattle.store_model.specs.Heads.{changes_of, groups_of, heads_of, numbered, synced_since, with_group}
-use Rattle.store_model.specs.Invariant.{AreApart, AreNumbered, HasNumbers}
-use Rattle.store_model.specs.Legal.{AreConsecutive, AreParts, FitHead, is_orphan, IsPart}
-use Rattle.store_model.specs.Store.{At, Bud, Carried, Index, Next, Orphan, Store}
+use Rattle.store_model.specs.Heads.{changes_of, groups_of_head, heads_of, numbered_group, synced_since, with_head_group}
+use Rattle.store_model.specs.Invariant.{AreRolesApart, AreNumbered, HasNumbers}
+use Rattle.store_model.specs.Legal.{AreConsecutive, AreLegalParts, FitHead, is_orphan, IsLegalPart}
+use Rattle.store_model.specs.Store.{At, Bud, Carried, StoreIndex, Next, Orphan, Store}
 use Rattle.store_model.proofs.Apart.{groups_other}
 use Rattle.store_model.proofs.BackingPuts.{groups_added, has_last}
 use Rattle.store_model.proofs.BegunCommits.{low_heads}
@@ -121,14 +121,14 @@ placed_all n front (c ∷ group) h follow =
 pub in_turn : (n : ℕ) (group : Numbered) → AreConsecutive n group → by_number group ≡ group
 in_turn n group follow = placed_all n [] group refl follow
 
-pub numbered_replayed : (group : List Carried) → map (λ c. as_replayed c.1) (numbered group) ≡ map as_replayed (changes_of group)
+pub numbered_replayed : (group : List Carried) → map (λ c. as_replayed c.1) (numbered_group group) ≡ map as_replayed (changes_of group)
 numbered_replayed [] = refl
 numbered_replayed (c ∷ group) = ap (λ (rest : List Change). as_replayed c.change ∷ rest) (numbered_replayed group)
 
 -- ---- a group
 -- the groups of the three heads
 abbrev pub lists_of : List Bud → List (List Numbered)
-lists_of buds = [] ∷ map numbered (groups_of 1 buds) ∷ map numbered (groups_of 2 buds) ∷ []
+lists_of buds = [] ∷ map numbered_group (groups_of_head 1 buds) ∷ map numbered_group (groups_of_head 2 buds) ∷ []
 
 high_one : (mark : ℕ) (group : Numbered) → are_high mark group ≡ true → are_high mark (in_groups (group ∷ [])) ≡ true
 high_one mark group h = ap (are_high mark) (append-nil group) ∙ h
@@ -137,49 +137,49 @@ high_one mark group h = ap (are_high mark) (append-nil group) ∙ h
 pub record IsPutLast (mark head : ℕ) (group : List Carried) (buds : List Bud) : Type 0 where
   pub last : List (List Numbered)
   pub long : length last ≡ 3
-  pub lists : lists_of (with_group head group buds) ≡ both (lists_of buds) last
+  pub lists : lists_of (with_head_group head group buds) ≡ both (lists_of buds) last
   pub high : AreHigh mark (fulls last)
-  pub alone : in_heads last ≡ numbered group
+  pub alone : in_heads last ≡ numbered_group group
 
-pub put_last : (mark head : ℕ) (group : List Carried) (buds : List Bud) → AreConsecutive mark (numbered group) → (head ≡ 1) ⊎ (head ≡ 2) → groups_of head (with_group head group buds) ≡ groups_of head buds ++ group ∷ [] → IsPutLast mark head group buds
+pub put_last : (mark head : ℕ) (group : List Carried) (buds : List Bud) → AreConsecutive mark (numbered_group group) → (head ≡ 1) ⊎ (head ≡ 2) → groups_of_head head (with_head_group head group buds) ≡ groups_of_head head buds ++ group ∷ [] → IsPutLast mark head group buds
 put_last mark head group buds follow (inl one) added =
-    let mine = subst (λ (k : ℕ). groups_of k (with_group head group buds) ≡ groups_of k buds ++ group ∷ []) one added in
+    let mine = subst (λ (k : ℕ). groups_of_head k (with_head_group head group buds) ≡ groups_of_head k buds ++ group ∷ []) one added in
     let other = groups_other 2 head group buds (ap (λ (k : ℕ). k == 2) one) in
-    let new : Numbered = numbered group in
+    let new : Numbered = numbered_group group in
     record {
       last = [] ∷ (new ∷ []) ∷ [] ∷ [];
       long = refl;
       lists =
-          ap (λ (gs : List (List Carried)). [] ∷ map numbered gs ∷ map numbered (groups_of 2 (with_group head group buds)) ∷ []) mine
-          ∙ ap (λ (gs : List Numbered). [] ∷ gs ∷ map numbered (groups_of 2 (with_group head group buds)) ∷ []) (map-append numbered (groups_of 1 buds) (group ∷ []))
-          ∙ ap (λ (gs : List (List Carried)). [] ∷ (map numbered (groups_of 1 buds) ++ new ∷ []) ∷ map numbered gs ∷ []) other
-          ∙ ap (λ (gs : List Numbered). [] ∷ (map numbered (groups_of 1 buds) ++ new ∷ []) ∷ gs ∷ []) (sym (append-nil (map numbered (groups_of 2 buds))));
+          ap (λ (gs : List (List Carried)). [] ∷ map numbered_group gs ∷ map numbered_group (groups_of_head 2 (with_head_group head group buds)) ∷ []) mine
+          ∙ ap (λ (gs : List Numbered). [] ∷ gs ∷ map numbered_group (groups_of_head 2 (with_head_group head group buds)) ∷ []) (map-append numbered_group (groups_of_head 1 buds) (group ∷ []))
+          ∙ ap (λ (gs : List (List Carried)). [] ∷ (map numbered_group (groups_of_head 1 buds) ++ new ∷ []) ∷ map numbered_group gs ∷ []) other
+          ∙ ap (λ (gs : List Numbered). [] ∷ (map numbered_group (groups_of_head 1 buds) ++ new ∷ []) ∷ gs ∷ []) (sym (append-nil (map numbered_group (groups_of_head 2 buds))));
       high = and_from (are_high mark (in_groups (new ∷ []))) true (high_one mark new (high_group mark mark new (omega arith) follow)) refl;
       alone = append-nil (new ++ []) ∙ append-nil new;
     }
 put_last mark head group buds follow (inr two) added =
-    let mine = subst (λ (k : ℕ). groups_of k (with_group head group buds) ≡ groups_of k buds ++ group ∷ []) two added in
+    let mine = subst (λ (k : ℕ). groups_of_head k (with_head_group head group buds) ≡ groups_of_head k buds ++ group ∷ []) two added in
     let other = groups_other 1 head group buds (ap (λ (k : ℕ). k == 1) two) in
-    let new : Numbered = numbered group in
+    let new : Numbered = numbered_group group in
     record {
       last = [] ∷ [] ∷ (new ∷ []) ∷ [];
       long = refl;
       lists =
-          ap (λ (gs : List (List Carried)). [] ∷ map numbered (groups_of 1 (with_group head group buds)) ∷ map numbered gs ∷ []) mine
-          ∙ ap (λ (gs : List Numbered). [] ∷ map numbered (groups_of 1 (with_group head group buds)) ∷ gs ∷ []) (map-append numbered (groups_of 2 buds) (group ∷ []))
-          ∙ ap (λ (gs : List (List Carried)). [] ∷ map numbered gs ∷ (map numbered (groups_of 2 buds) ++ new ∷ []) ∷ []) other
-          ∙ ap (λ (gs : List Numbered). [] ∷ gs ∷ (map numbered (groups_of 2 buds) ++ new ∷ []) ∷ []) (sym (append-nil (map numbered (groups_of 1 buds))));
+          ap (λ (gs : List (List Carried)). [] ∷ map numbered_group (groups_of_head 1 (with_head_group head group buds)) ∷ map numbered_group gs ∷ []) mine
+          ∙ ap (λ (gs : List Numbered). [] ∷ map numbered_group (groups_of_head 1 (with_head_group head group buds)) ∷ gs ∷ []) (map-append numbered_group (groups_of_head 2 buds) (group ∷ []))
+          ∙ ap (λ (gs : List (List Carried)). [] ∷ map numbered_group gs ∷ (map numbered_group (groups_of_head 2 buds) ++ new ∷ []) ∷ []) other
+          ∙ ap (λ (gs : List Numbered). [] ∷ gs ∷ (map numbered_group (groups_of_head 2 buds) ++ new ∷ []) ∷ []) (sym (append-nil (map numbered_group (groups_of_head 1 buds))));
       high = and_from (are_high mark (in_groups (new ∷ []))) true (high_one mark new (high_group mark mark new (omega arith) follow)) refl;
       alone = append-nil (new ++ []) ∙ append-nil new;
     }
 
 -- what a group makes of that to which all before lead
-group_replayed : (m : Store) (part : Part) → IsPart m part → AreNumbered m (faced_now m) → nameless (without_nameless m.now.tree) ≡ [] → groups_of part.head (with_group part.head part.group m.now.buds) ≡ groups_of part.head m.now.buds ++ part.group ∷ []
-    → replayed (without_nameless m.now.tree) (in_heads (lists_of (with_group part.head part.group m.now.buds)))
+group_replayed : (m : Store) (part : Part) → IsLegalPart m part → AreNumbered m (faced_now m) → nameless (without_nameless m.now.tree) ≡ [] → groups_of_head part.head (with_head_group part.head part.group m.now.buds) ≡ groups_of_head part.head m.now.buds ++ part.group ∷ []
+    → replayed (without_nameless m.now.tree) (in_heads (lists_of (with_head_group part.head part.group m.now.buds)))
     ≡ apply (replayed (without_nameless m.now.tree) (in_heads (lists_of m.now.buds))) (map as_replayed (changes_of part.group))
 group_replayed m part is n named added =
     let committed : Tree = without_nameless m.now.tree in
-    let group : Numbered = numbered part.group in
+    let group : Numbered = numbered_group part.group in
     let before : List (List Numbered) = lists_of m.now.buds in
     let it = put_last m.sqnum part.head part.group m.now.buds is.numbers is.head added in
     let parts = split committed m.sqnum before it.last it.long (low_heads m n) it.high named in
@@ -189,7 +189,7 @@ group_replayed m part is n named added =
 pub in_order : (tree : Tree) → IsProper tree → IsInOrder tree
 in_order tree p = record { inodes = p.inodes_ascend; blocks = p.blocks_ascend; entries = p.entries_ascend }
 
-part_leads : (m : Store) (part : Part) → IsPart m part → IsProper m.tree → AreApart m → AreNumbered m (faced_now m) → JournalLeads m → JournalLeads (after_part m part)
+part_leads : (m : Store) (part : Part) → IsLegalPart m part → IsProper m.tree → AreRolesApart m → AreNumbered m (faced_now m) → JournalLeads m → JournalLeads (after_part m part)
 part_leads m part is proper a n j = by (end_at m.ends part.head) refl is.fits
   where
     of : (at : At) → end_at m.ends part.head ≡ Some at → JournalLeads (after_part m part)
@@ -205,7 +205,7 @@ part_leads m part is proper a n j = by (end_at m.ends part.head) refl is.fits
     by None e fits = absurd fits
     by (Some at) e fits = of at e
 
-parts_leads : (parts : List Part) (m : Store) → AreParts m parts → IsProper m.tree → AreApart m → HasNumbers m → JournalLeads m → JournalLeads (fold after_part m parts)
+parts_leads : (parts : List Part) (m : Store) → AreLegalParts m parts → IsProper m.tree → AreRolesApart m → HasNumbers m → JournalLeads m → JournalLeads (fold after_part m parts)
 parts_leads [] m are proper a n j = j
 parts_leads (part ∷ parts) m are proper a n j =
     parts_leads parts (after_part m part) are.1 are.0.keeps.proper (part_apart m part are.0 a) (part_numbers m part are.0.head are.0.numbers n) (part_leads m part are.0 proper a n.both.0 j)
@@ -217,7 +217,7 @@ same_leads m k tree committed lists j = record {
   leads = ap without_nameless tree ∙ j.leads ∙ sym (ap (λ (t : Tree). replayed (without_nameless t) (in_heads (lists_of k.now.buds))) committed ∙ ap (λ (z : List (List Numbered)). replayed (without_nameless m.now.tree) (in_heads z)) lists);
 }
 
-pub put_leads : (m : Store) (p : Putting) → AreParts m p.parts → IsProper m.tree → AreApart m → HasNumbers m → JournalLeads m → JournalLeads (put p m)
+pub put_leads : (m : Store) (p : Putting) → AreLegalParts m p.parts → IsProper m.tree → AreRolesApart m → HasNumbers m → JournalLeads m → JournalLeads (put p m)
 put_leads m p are proper a n j = by p.payment (parts_leads p.parts m are proper a n j)
   where
     end : Store
@@ -268,7 +268,7 @@ orphan_nameless m ino orphan are proper =
     let listed = sym (ap (λ (ns : List ℕ). list_any (λ k. k == ino) ns) are) ∙ sym (orphan_listed ino m.orphans) ∙ orphan in
     listed_nameless m.tree.inodes ino proper.inodes_ascend listed
 
-pub drop_leads : (m : Store) (ino : ℕ) (index : Index) → is_orphan m ino ≡ true → map (λ orphan. orphan.ino) m.orphans ≡ nameless m.tree → IsProper m.tree → JournalLeads m → JournalLeads (drop_inode ino index m)
+pub drop_leads : (m : Store) (ino : ℕ) (index : StoreIndex) → is_orphan m ino ≡ true → map (λ orphan. orphan.ino) m.orphans ≡ nameless m.tree → IsProper m.tree → JournalLeads m → JournalLeads (drop_inode ino index m)
 drop_leads m ino index orphan are proper j = record { named = j.named; leads = dropped_forgotten m.tree ino (in_order m.tree proper) (orphan_nameless m ino orphan are proper) ∙ j.leads }
 
 -- ---- a commit's end
@@ -287,7 +287,7 @@ list_length : (heads : List Head) → length (head_groups heads) ≡ length head
 list_length [] = refl
 list_length (head ∷ heads) = ap (λ n. suc n) (list_length heads)
 
-ended_leads : (m : Store) (next : Next) → IsBegun m next → JournalLeads m → JournalLeads (end_commit m (Some next))
+ended_leads : (m : Store) (next : Next) → IsCommitBegun m next → JournalLeads m → JournalLeads (end_commit m (Some next))
 ended_leads m next b j =
     let committed : Tree = without_nameless m.now.tree in
     let since : List Head = heads_of next.view.buds (synced_since m next) in

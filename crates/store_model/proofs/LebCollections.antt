@@ -7,10 +7,10 @@ use Rattle.media_lpt.specs.declared.leb_kind.LebKind.{LebKind}
 use Rattle.media_lpt.specs.declared.leb_kind.LebKind.TheVariants as kind
 use Rattle.leaf_map.specs.Kept.{Kept}
 use Rattle.store_model.specs.Events.{begin, free_victim}
-use Rattle.store_model.specs.Invariant.{AreApart, is_used}
-use Rattle.store_model.specs.Lebs.{changed_leb, emptied, has_leaf, has_role, is_role, is_victim_of, stands_in}
+use Rattle.store_model.specs.Invariant.{AreRolesApart, is_used}
+use Rattle.store_model.specs.Lebs.{changed_leb, emptied_leb, has_leaf, has_role, is_role, is_victim_of, stands_in}
 use Rattle.store_model.specs.Legal.{are_distinct, CanFree}
-use Rattle.store_model.specs.Store.{Bud, Leb, Moving, Place, Store}
+use Rattle.store_model.specs.Store.{Bud, Leb, Moving, IndexNodePlace, Store}
 use Rattle.store_model.proofs.LebFrees.{all_stand, both_all}
 use Rattle.store_model.proofs.LebLeaves.{or_none}
 use Rattle.store_model.proofs.LebPuts.{other_leb}
@@ -29,7 +29,7 @@ begin_use m victim n kind.Index e h = h
 begin_use m victim n kind.Bud e h = h
 begin_use m victim n kind.Taken e h = h
 
-pub begin_apart : (m : Store) (victim : ℕ) → m.moving ≡ None → has_role kind.Leaf m.lebs victim ≡ true → AreApart m → AreApart (begin victim m)
+pub begin_apart : (m : Store) (victim : ℕ) → m.moving ≡ None → has_role kind.Leaf m.lebs victim ≡ true → AreRolesApart m → AreRolesApart (begin victim m)
 begin_apart m victim idle leaf a =
     let rs : List Row = rows m.lebs in
     let r = to_rows m a in
@@ -46,12 +46,12 @@ begin_apart m victim idle leaf a =
 abbrev pub free_row : ℕ → Row → Row
 free_row lnum r = cond (r.0 == lnum) (r.0, kind.Free) r
 
-pub free_rows : (lnum : ℕ) (lebs : List Leb) → rows (changed_leb lnum emptied lebs) ≡ map (free_row lnum) (rows lebs)
+pub free_rows : (lnum : ℕ) (lebs : List Leb) → rows (changed_leb lnum emptied_leb lebs) ≡ map (free_row lnum) (rows lebs)
 free_rows lnum [] = refl
 free_rows lnum (leb ∷ lebs) = by (leb.lnum == lnum) (free_rows lnum lebs)
   where
-    by : (b : Bool) → rows (changed_leb lnum emptied lebs) ≡ map (free_row lnum) (rows lebs)
-        → ((cond b (record leb { role = kind.Free; text = [] }) leb).lnum, (cond b (record leb { role = kind.Free; text = [] }) leb).role) ∷ rows (changed_leb lnum emptied lebs)
+    by : (b : Bool) → rows (changed_leb lnum emptied_leb lebs) ≡ map (free_row lnum) (rows lebs)
+        → ((cond b (record leb { role = kind.Free; text = [] }) leb).lnum, (cond b (record leb { role = kind.Free; text = [] }) leb).role) ∷ rows (changed_leb lnum emptied_leb lebs)
         ≡ cond b (leb.lnum, kind.Free) (leb.lnum, leb.role) ∷ map (free_row lnum) (rows lebs)
     by true rest = ap (λ (z : List Row). (leb.lnum, kind.Free) ∷ z) rest
     by false rest = ap (λ (z : List Row). (leb.lnum, leb.role) ∷ z) rest
@@ -98,12 +98,12 @@ other_use m k victim n kind.Index live held now next e h = rw (live, held) h
 other_use m k victim n kind.Bud live held now next e h = rw now h
 other_use m k victim n kind.Taken live held now next e h = rw (live, held, next) h
 
-freed_apart : (m : Store) (moving : Moving) → m.moving ≡ Some moving → m.held ≡ [] → list_any (stands_in moving.victim) m.live ≡ false → AreApart m → AreApart (free_victim m (Some moving))
+freed_apart : (m : Store) (moving : Moving) → m.moving ≡ Some moving → m.held ≡ [] → list_any (stands_in moving.victim) m.live ≡ false → AreRolesApart m → AreRolesApart (free_victim m (Some moving))
 freed_apart m moving e none_held none a = from_rows k (subst (AreRows k) (sym (free_rows v m.lebs)) (record {
   numbers = ap are_distinct (numbers_kept (free_row v) (free_number v) rs) ∙ r.numbers;
   used = used_kept m k (free_row v) rs (λ row there h. use_of row h (row.0 == v) refl) rs (all_in rs) r.used;
   buds = all_weaker (λ (bud : Bud). has_row kind.Bud rs bud.lnum) (λ bud. has_row kind.Bud new bud.lnum) (λ bud h. free_keeps kind.Bud v bud.lnum rs r.numbers leaf refl h) m.now.buds r.buds;
-  index = all_weaker (λ (place : Place). has_row kind.Index rs place.lnum) (λ place. has_row kind.Index new place.lnum) (λ place h. free_keeps kind.Index v place.lnum rs r.numbers leaf refl h) m.now.places r.index;
+  index = all_weaker (λ (place : IndexNodePlace). has_row kind.Index rs place.lnum) (λ place. has_row kind.Index new place.lnum) (λ place h. free_keeps kind.Index v place.lnum rs r.numbers leaf refl h) m.now.places r.index;
   leaves = both_all (λ (x : Kept). has_row kind.Leaf rs x.leaf.lnum || has_row kind.Bud rs x.leaf.lnum) (λ x. list_any (stands_in x.leaf.lnum) m.live) (λ x. has_row kind.Leaf new x.leaf.lnum || has_row kind.Bud new x.leaf.lnum)
       (λ x h g. leaf_of x h (not_there v x.leaf.lnum m.live none g)) m.live r.leaves (all_stand m.live);
   victim = refl;
@@ -144,9 +144,9 @@ freed_apart m moving e none_held none a = from_rows k (subst (AreRows k) (sym (f
     leaf_of x h away =
         ap (λ (b : Bool). b || has_row kind.Bud new x.leaf.lnum) (free_other kind.Leaf v x.leaf.lnum rs away) ∙ ap (λ (b : Bool). has_row kind.Leaf rs x.leaf.lnum || b) (free_other kind.Bud v x.leaf.lnum rs away) ∙ h
 
-pub free_apart : (m : Store) → CanFree m → AreApart m → AreApart (free_victim m m.moving)
+pub free_apart : (m : Store) → CanFree m → AreRolesApart m → AreRolesApart (free_victim m m.moving)
 free_apart m can a = by m.moving refl
   where
-    by : (o : Option Moving) → m.moving ≡ o → AreApart (free_victim m o)
+    by : (o : Option Moving) → m.moving ≡ o → AreRolesApart (free_victim m o)
     by None e = absurd (rw e at can.empty)
     by (Some moving) e = freed_apart m moving e can.synced.none_held (not_true (list_any (stands_in moving.victim) m.live) (rw e at can.empty)) a

@@ -7,10 +7,10 @@ use Rattle.std.proofs.lemmas.Bool.{and_parts, eqb-true, false≢true}
 use Rattle.media_lpt.specs.declared.leb_kind.LebKind.{LebKind}
 use Rattle.media_lpt.specs.declared.leb_kind.LebKind.TheVariants as kind
 use Rattle.store_model.specs.Events.{after_part, credit, drop_inode, end_at, granted, open_leb, paid, Part, Payment, put, Putting, sync}
-use Rattle.store_model.specs.Invariant.{AreApart}
+use Rattle.store_model.specs.Invariant.{AreRolesApart}
 use Rattle.store_model.specs.Lebs.{has_leaf, has_role, is_role, is_victim_of, role_count, space_of}
 use Rattle.store_model.specs.Legal.{are_distinct}
-use Rattle.store_model.specs.Store.{Index, Leb, Store}
+use Rattle.store_model.specs.Store.{StoreIndex, Leb, Store}
 use Rattle.store_model.proofs.LebDrops.{dropped_store}
 use Rattle.store_model.proofs.LebFrees.{all_padded, freed_row, freed_rows, synced_store}
 use Rattle.store_model.proofs.LebOpens.{open_lebs, open_row}
@@ -87,7 +87,7 @@ sync_empty m =
 pub sync_index : (m : Store) → (space_of (sync m)).index ≡ (space_of m).index
 sync_index m = count_rows kind.Index (sync m).lebs ∙ ap (row_count kind.Index) (sync_rows m) ∙ freed_index (synced_store m) (rows m.lebs) ∙ sym (count_rows kind.Index m.lebs)
 
-pub drop_index : (m : Store) (ino : ℕ) (index : Index) → (space_of (drop_inode ino index m)).index ≡ (space_of m).index
+pub drop_index : (m : Store) (ino : ℕ) (index : StoreIndex) → (space_of (drop_inode ino index m)).index ≡ (space_of m).index
 drop_index m ino index =
     count_rows kind.Index (drop_inode ino index m).lebs ∙ ap (row_count kind.Index) (freed_rows (dropped_store ino index m) m.lebs)
     ∙ freed_index (dropped_store ino index m) (rows m.lebs) ∙ sym (count_rows kind.Index m.lebs)
@@ -139,12 +139,12 @@ open_count role lnum (r ∷ rs) other d h = by (open_count role lnum rs other (a
             ∙ first (is_role role kind.Bud) (is_role role r.1) (is_role role kind.Free) other (ap (is_role role) (sym same)) (row_count role rs)
     by rest false e h = further (is_role role r.1) (row_count role (map (open_row lnum) rs)) (row_count role rs) (one_if (is_role role kind.Free)) (rest h)
 
-pub open_empty : (m : Store) (head lnum : ℕ) → has_role kind.Free m.lebs lnum ≡ true → AreApart m → (space_of (open_leb head lnum m)).empty + 1 ≡ (space_of m).empty
+pub open_empty : (m : Store) (head lnum : ℕ) → has_role kind.Free m.lebs lnum ≡ true → AreRolesApart m → (space_of (open_leb head lnum m)).empty + 1 ≡ (space_of m).empty
 open_empty m head lnum empty a =
     ap (λ n. n + 1) (count_rows kind.Free (open_leb head lnum m).lebs ∙ ap (row_count kind.Free) (open_lebs m head lnum))
     ∙ open_count kind.Free lnum (rows m.lebs) refl (to_rows m a).numbers (sym (role_row kind.Free m.lebs lnum) ∙ empty) ∙ sym (count_rows kind.Free m.lebs)
 
-pub open_index : (m : Store) (head lnum : ℕ) → has_role kind.Free m.lebs lnum ≡ true → AreApart m → (space_of (open_leb head lnum m)).index ≡ (space_of m).index
+pub open_index : (m : Store) (head lnum : ℕ) → has_role kind.Free m.lebs lnum ≡ true → AreRolesApart m → (space_of (open_leb head lnum m)).index ≡ (space_of m).index
 open_index m head lnum empty a =
     let opened = open_count kind.Index lnum (rows m.lebs) refl (to_rows m a).numbers (sym (role_row kind.Free m.lebs lnum) ∙ empty) in
     let now = count_rows kind.Index (open_leb head lnum m).lebs ∙ ap (row_count kind.Index) (open_lebs m head lnum) in

@@ -7,14 +7,14 @@ use Rattle.fs_model.specs.declared.change.Change.TheVariants.{DropInode}
 use Rattle.fs_model.specs.Change.{without_inode}
 use Rattle.leaf_map.specs.After.{is_gone}
 use Rattle.store_model.specs.Events.{drop_inode, is_synced_orphan, last_list}
-use Rattle.store_model.specs.Invariant.{AreApart}
+use Rattle.store_model.specs.Invariant.{AreRolesApart}
 use Rattle.store_model.specs.Lebs.{is_among, stands_in}
-use Rattle.store_model.specs.Store.{Index, Store}
+use Rattle.store_model.specs.Store.{StoreIndex, Store}
 use Rattle.store_model.proofs.LebFrees.{HasFewer, tidied_apart}
 use Rattle.store_model.proofs.LebLeaves.{all_filter, any_filter, or_none}
 use Rattle.store_model.proofs.Sorting.{or_false}
 
-abbrev pub dropped_store : ℕ → Index → Store → Store
+abbrev pub dropped_store : ℕ → StoreIndex → Store → Store
 dropped_store ino index m = record m {
   tree = without_inode m.tree ino;
   index = index;
@@ -24,7 +24,7 @@ dropped_store ino index m = record m {
   closed = cond (is_among (last_list m) ino) (m.closed ++ ino ∷ []) m.closed;
 }
 
-drop_fewer : (m : Store) (ino : ℕ) (index : Index) → HasFewer m (dropped_store ino index m)
+drop_fewer : (m : Store) (ino : ℕ) (index : StoreIndex) → HasFewer m (dropped_store ino index m)
 drop_fewer m ino index = record { lebs = refl; none = none; live = λ test h. all_filter (λ x. test x.leaf.lnum) (λ x. not (is_gone (DropInode ino) x)) m.live h; buds = refl; places = refl; next = refl; moving = refl }
   where
     none : (lnum : ℕ) → (list_any (stands_in lnum) m.live || list_any (stands_in lnum) m.held) ≡ false
@@ -43,5 +43,5 @@ drop_fewer m ino index = record { lebs = refl; none = none; live = λ test h. al
             list_any-append (stands_in lnum) m.held (filter (is_gone (DropInode ino)) m.live)
             ∙ or_none (list_any (stands_in lnum) m.held) (list_any (stands_in lnum) (filter (is_gone (DropInode ino)) m.live)) b (any_filter (stands_in lnum) (is_gone (DropInode ino)) m.live a)
 
-pub drop_apart : (m : Store) (ino : ℕ) (index : Index) → AreApart m → AreApart (drop_inode ino index m)
+pub drop_apart : (m : Store) (ino : ℕ) (index : StoreIndex) → AreRolesApart m → AreRolesApart (drop_inode ino index m)
 drop_apart m ino index a = tidied_apart m (dropped_store ino index m) a (drop_fewer m ino index) a.ends

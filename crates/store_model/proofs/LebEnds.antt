@@ -7,11 +7,11 @@ use Rattle.media_lpt.specs.declared.leb_kind.LebKind.{LebKind}
 use Rattle.media_lpt.specs.declared.leb_kind.LebKind.TheVariants as kind
 use Rattle.leaf_map.specs.Kept.{Kept}
 use Rattle.store_model.specs.Events.{end_commit, node_items, offer, offered, role_after, role_then, view_branchings, write_index}
-use Rattle.store_model.specs.Invariant.{AreApart, HasSince, IsSince, IsTaking, is_used, lebs_taken}
+use Rattle.store_model.specs.Invariant.{AreRolesApart, HasSince, IsSince, IsTaking, is_used, lebs_taken}
 use Rattle.store_model.specs.Heads.{synced_since}
 use Rattle.store_model.specs.Legal.{are_distinct}
 use Rattle.store_model.specs.Lebs.{changed_leb, has_leaf, has_node, has_role, is_among, is_role}
-use Rattle.store_model.specs.Store.{Bud, Item, Leb, Moving, Next, Place, Store, View}
+use Rattle.store_model.specs.Store.{Bud, Item, Leb, Moving, Next, IndexNodePlace, Store, View}
 use Rattle.store_model.proofs.LebFrees.{AreNearly, both_all, tidied_from}
 use Rattle.store_model.proofs.LebPuts.{same_taken}
 use Rattle.store_model.proofs.LebRows.{AreRows, Row, Uses, all_in, all_weaker, from_rows, has_row, numbers_kept, role_row, rows, to_rows, used_follows, used_stays, victim_row}
@@ -127,12 +127,12 @@ all_buds (bud ∷ buds) =
     (or_left (bud.lnum == bud.lnum) (list_any (λ b. b.lnum == bud.lnum) buds) (eq-eqb bud.lnum bud.lnum refl))
     (all_weaker (λ (c : Bud). list_any (λ b. b.lnum == c.lnum) buds) (λ c. list_any (λ b. b.lnum == c.lnum) (bud ∷ buds)) (λ c h. or_right (bud.lnum == c.lnum) (list_any (λ b. b.lnum == c.lnum) buds) h) buds (all_buds buds))
 
-pub all_places : (places : List Place) → list_all (λ place. has_node places place.lnum) places ≡ true
+pub all_places : (places : List IndexNodePlace) → list_all (λ place. has_node places place.lnum) places ≡ true
 all_places [] = refl
 all_places (place ∷ places) =
     and_from (has_node (place ∷ places) place.lnum) (list_all (λ c. has_node (place ∷ places) c.lnum) places)
     (or_left (place.lnum == place.lnum) (has_node places place.lnum) (eq-eqb place.lnum place.lnum refl))
-    (all_weaker (λ (c : Place). has_node places c.lnum) (λ c. has_node (place ∷ places) c.lnum) (λ c h. or_right (place.lnum == c.lnum) (has_node places c.lnum) h) places (all_places places))
+    (all_weaker (λ (c : IndexNodePlace). has_node places c.lnum) (λ c. has_node (place ∷ places) c.lnum) (λ c h. or_right (place.lnum == c.lnum) (has_node places c.lnum) h) places (all_places places))
 
 pub among_all : (test : ℕ → Bool) (taken : List ℕ) (n : ℕ) → list_all test taken ≡ true → is_among taken n ≡ true → test n ≡ true
 among_all test [] n h i = absurd (false≢true i)
@@ -179,14 +179,14 @@ end_uses m next (r ∷ rs) h =
 
 -- where the index of the commit is to stand are LEBs of the index then
 pub ended_index : (m : Store) (next : Next) → IsTaking m (Some next) → list_all (λ place. has_row kind.Index (map (after_row next.view) (rows m.lebs)) place.lnum) next.view.places ≡ true
-ended_index m next t = both_all (λ (place : Place). has_role kind.Index m.lebs place.lnum || is_among next.taken place.lnum) (λ place. has_node next.view.places place.lnum) (λ place. has_row kind.Index (map (after_row next.view) (rows m.lebs)) place.lnum)
+ended_index m next t = both_all (λ (place : IndexNodePlace). has_role kind.Index m.lebs place.lnum || is_among next.taken place.lnum) (λ place. has_node next.view.places place.lnum) (λ place. has_row kind.Index (map (after_row next.view) (rows m.lebs)) place.lnum)
     (λ place h g. index_of place.lnum g (either_of (has_role kind.Index m.lebs place.lnum) (is_among next.taken place.lnum) h)) next.view.places t.1 (all_places next.view.places)
   where
     index_of : (n : ℕ) → has_node next.view.places n ≡ true → (has_role kind.Index m.lebs n ≡ true) ⊎ (is_among next.taken n ≡ true) → has_row kind.Index (map (after_row next.view) (rows m.lebs)) n ≡ true
     index_of n g (inl e) = one_after next.view kind.Index kind.Index n (index_one next.view n g) (rows m.lebs) (sym (role_row kind.Index m.lebs n) ∙ e)
     index_of n g (inr e) = one_after next.view kind.Taken kind.Index n (taken_one next.view n) (rows m.lebs) (sym (role_row kind.Taken m.lebs n) ∙ among_all (has_role kind.Taken m.lebs) next.taken n t.0 e)
 
-ended_apart : (m : Store) (next : Next) → IsTaking m (Some next) → IsSince m next.view → AreApart m → AreApart (end_commit m (Some next))
+ended_apart : (m : Store) (next : Next) → IsTaking m (Some next) → IsSince m next.view → AreRolesApart m → AreRolesApart (end_commit m (Some next))
 ended_apart m next t s a = tidied_from k (subst (AreNearly k) (sym (after_rows view m.lebs)) (record {
   numbers = ap are_distinct (numbers_kept (after_row view) (after_number view) rs) ∙ r.numbers;
   used = end_uses m next rs r.used;
@@ -222,7 +222,7 @@ ended_apart m next t s a = tidied_from k (subst (AreNearly k) (sym (after_rows v
     victim_of None h = refl
     victim_of (Some moving) h = one_after next.view kind.Leaf kind.Leaf moving.victim (leaf_one next.view moving.victim) (rows m.lebs) h
 
-pub end_apart : (m : Store) (next : Option Next) → IsTaking m next → HasSince m next → AreApart m → AreApart (end_commit m next)
+pub end_apart : (m : Store) (next : Option Next) → IsTaking m next → HasSince m next → AreRolesApart m → AreRolesApart (end_commit m next)
 end_apart m None t s a = a
 end_apart m (Some next) t s a = ended_apart m next t s a
 
@@ -237,7 +237,7 @@ set_rows n text (leb ∷ lebs) = by (leb.lnum == n) (set_rows n text lebs)
     by false rest = ap (λ (z : List Row). (leb.lnum, leb.role) ∷ z) rest
 
 -- the same leaves, buds and roles
-same_apart : (m k : Store) → rows k.lebs ≡ rows m.lebs → k.live ≡ m.live → k.held ≡ m.held → k.moving ≡ m.moving → k.now ≡ m.now → k.ends ≡ m.ends → lebs_taken k.next ≡ lebs_taken m.next → AreApart m → AreApart k
+same_apart : (m k : Store) → rows k.lebs ≡ rows m.lebs → k.live ≡ m.live → k.held ≡ m.held → k.moving ≡ m.moving → k.now ≡ m.now → k.ends ≡ m.ends → lebs_taken k.next ≡ lebs_taken m.next → AreRolesApart m → AreRolesApart k
 same_apart m k same live held moving now ends next a = from_rows k (subst (AreRows k) (sym same) (record {
   numbers = r.numbers;
   used = used_stays m k (rows m.lebs) (λ row there h. used_follows m k row.0 row.1 (uses row.0 row.1) h) (rows m.lebs) (all_in (rows m.lebs)) r.used;
@@ -253,11 +253,11 @@ same_apart m k same live held moving now ends next a = from_rows k (subst (AreRo
     uses : (n : ℕ) (role : LebKind) → Uses m k n role
     uses n role = record { leaf = λ e h. rw (live, held) h; none = λ away h. rw (live, held) h; victim = rw moving refl; buds = λ h. rw now h; next = next }
 
-pub write_apart : (m : Store) (next : Option Next) → m.next ≡ next → AreApart m → AreApart (write_index m next)
+pub write_apart : (m : Store) (next : Option Next) → m.next ≡ next → AreRolesApart m → AreRolesApart (write_index m next)
 write_apart m None e a = a
 write_apart m (Some next) e a =
     let lnum : ℕ = get_or next.taken next.written 0 in
     same_apart m (write_index m (Some next)) (set_rows lnum (flat_map (node_items m.geo) (view_branchings next.view lnum m.sqnum)) m.lebs) refl refl refl refl refl (sym (ap lebs_taken e)) a
 
-pub offer_apart : (m : Store) → AreApart m → AreApart (offer m)
+pub offer_apart : (m : Store) → AreRolesApart m → AreRolesApart (offer m)
 offer_apart m a = same_apart m (offer m) refl refl refl refl refl refl (same_taken offered m.next (λ next. refl)) a

@@ -7,12 +7,12 @@ use Rattle.std.proofs.lemmas.Bool.{and_parts, and_from, eqb-true, eq-eqb, false�
 use Rattle.media_lpt.specs.declared.leb_kind.LebKind.TheVariants as kind
 use Rattle.ubifs_base.specs.declared.raw_geometry.RawGeometry.{RawGeometry}
 use Rattle.leaf_map.specs.Kept.{Kept}
-use Rattle.store_model.specs.Events.{filled_up, last_gap, padded, sync, synced_orphan}
-use Rattle.store_model.specs.Heads.{counts_of}
-use Rattle.store_model.specs.Invariant.{AreApart, AreAtBuds, is_used, lebs_taken}
+use Rattle.store_model.specs.Events.{filled_up, last_gap, padded_head, sync, synced_orphan}
+use Rattle.store_model.specs.Heads.{head_counts}
+use Rattle.store_model.specs.Invariant.{AreRolesApart, AreAtBuds, is_used, lebs_taken}
 use Rattle.store_model.specs.Legal.{are_distinct}
-use Rattle.store_model.specs.Lebs.{freed, has_leaf, is_among, is_role, is_victim_of, stands_in, tidied}
-use Rattle.store_model.specs.Store.{At, Bud, Leb, Moving, Place, Store}
+use Rattle.store_model.specs.Lebs.{freed, has_leaf, is_among, is_role, is_victim_of, stands_in, tidied_store}
+use Rattle.store_model.specs.Store.{At, Bud, Leb, Moving, IndexNodePlace, Store}
 use Rattle.store_model.proofs.LebLeaves.{or_none}
 use Rattle.store_model.proofs.LebPuts.{text_rows}
 use Rattle.store_model.proofs.LebRows.{AreRows, Row, all_weaker, from_rows, has_row, not_more, numbers_kept, numbers_of, row_kept, rows, to_rows, victim_row}
@@ -135,7 +135,7 @@ or_nothing : (a : Bool) → (a || false) ≡ true → a ≡ true
 or_nothing true h = h
 or_nothing false h = h
 
-freed_use : (k : Store) (r : Row) → (is_used k r.0 r.1 || is_role kind.Leaf r.1) ≡ true → is_used (tidied k) (freed_row k r).0 (freed_row k r).1 ≡ true
+freed_use : (k : Store) (r : Row) → (is_used k r.0 r.1 || is_role kind.Leaf r.1) ≡ true → is_used (tidied_store k) (freed_row k r).0 (freed_row k r).1 ≡ true
 freed_use k (n, kind.Free) h = or_nothing (not (has_leaf k n)) h
 freed_use k (n, kind.Index) h = or_nothing (not (has_leaf k n)) h
 freed_use k (n, kind.Bud) h = or_nothing (list_any (λ bud. bud.lnum == n) k.now.buds) h
@@ -143,24 +143,24 @@ freed_use k (n, kind.Taken) h = or_nothing (not (has_leaf k n) && is_among (lebs
 freed_use k (n, kind.Leaf) h = by (has_leaf k n) (is_victim_of k.moving n) refl refl
   where
     by : (a v : Bool) → has_leaf k n ≡ a → is_victim_of k.moving n ≡ v
-        → is_used (tidied k) (cond {A = Row} (not a && not v) (n, kind.Free) (n, kind.Leaf)).0 (cond {A = Row} (not a && not v) (n, kind.Free) (n, kind.Leaf)).1 ≡ true
+        → is_used (tidied_store k) (cond {A = Row} (not a && not v) (n, kind.Free) (n, kind.Leaf)).0 (cond {A = Row} (not a && not v) (n, kind.Free) (n, kind.Leaf)).1 ≡ true
     by true v e g = or_left (has_leaf k n) (is_victim_of k.moving n) e
     by false true e g = or_right (has_leaf k n) (is_victim_of k.moving n) g
     by false false e g = ap not e
 
-all_freed : (k : Store) (rs : List Row) → list_all (λ r. is_used k r.0 r.1 || is_role kind.Leaf r.1) rs ≡ true → list_all (λ r. is_used (tidied k) r.0 r.1) (map (freed_row k) rs) ≡ true
+all_freed : (k : Store) (rs : List Row) → list_all (λ r. is_used k r.0 r.1 || is_role kind.Leaf r.1) rs ≡ true → list_all (λ r. is_used (tidied_store k) r.0 r.1) (map (freed_row k) rs) ≡ true
 all_freed k [] h = refl
 all_freed k (r ∷ rs) h =
     let p = and_parts (is_used k r.0 r.1 || is_role kind.Leaf r.1) (list_all (λ r. is_used k r.0 r.1 || is_role kind.Leaf r.1) rs) h in
-    and_from (is_used (tidied k) (freed_row k r).0 (freed_row k r).1) (list_all (λ r. is_used (tidied k) r.0 r.1) (map (freed_row k) rs)) (freed_use k r p.0) (all_freed k rs p.1)
+    and_from (is_used (tidied_store k) (freed_row k r).0 (freed_row k r).1) (list_all (λ r. is_used (tidied_store k) r.0 r.1) (map (freed_row k) rs)) (freed_use k r p.0) (all_freed k rs p.1)
 
 -- leaf LEBs without a leaf are empty then
-pub tidied_from : (k : Store) → AreNearly k (rows k.lebs) → AreAtBuds k.now.buds 0 k.ends → AreApart (tidied k)
-tidied_from k r ends = from_rows (tidied k) (subst (AreRows (tidied k)) (sym (freed_rows k k.lebs)) (record {
+pub tidied_from : (k : Store) → AreNearly k (rows k.lebs) → AreAtBuds k.now.buds 0 k.ends → AreRolesApart (tidied_store k)
+tidied_from k r ends = from_rows (tidied_store k) (subst (AreRows (tidied_store k)) (sym (freed_rows k k.lebs)) (record {
   numbers = ap are_distinct (numbers_kept (freed_row k) (freed_number k) rs) ∙ r.numbers;
   used = all_freed k rs r.used;
   buds = all_weaker (λ (bud : Bud). has_row kind.Bud rs bud.lnum) (λ bud. has_row kind.Bud new bud.lnum) (λ bud h. row_kept kind.Bud (freed_row k) (freed_number k) (keeps_bud k) rs bud.lnum h) k.now.buds r.buds;
-  index = all_weaker (λ (place : Place). has_row kind.Index rs place.lnum) (λ place. has_row kind.Index new place.lnum) (λ place h. row_kept kind.Index (freed_row k) (freed_number k) (keeps_index k) rs place.lnum h) k.now.places r.index;
+  index = all_weaker (λ (place : IndexNodePlace). has_row kind.Index rs place.lnum) (λ place. has_row kind.Index new place.lnum) (λ place h. row_kept kind.Index (freed_row k) (freed_number k) (keeps_index k) rs place.lnum h) k.now.places r.index;
   leaves = both_all (λ (x : Kept). has_row kind.Leaf rs x.leaf.lnum || has_row kind.Bud rs x.leaf.lnum) (λ x. list_any (stands_in x.leaf.lnum) k.live) (λ x. has_row kind.Leaf new x.leaf.lnum || has_row kind.Bud new x.leaf.lnum)
       (λ x h g. leaf x h g) k.live r.leaves (all_stand k.live);
   victim = victim_stays k rs k.moving refl r.victim;
@@ -193,12 +193,12 @@ fewer_use m k f (n, kind.Taken) h =
     (and_from (not (has_leaf k n)) (is_among (lebs_taken k.next) n) (not_more (has_leaf m n) (has_leaf k n) (f.none n) p.0) (ap (λ (taken : List ℕ). is_among taken n) f.next ∙ p.1))
 fewer_use m k f (n, kind.Leaf) h = or_right (has_leaf k n || is_victim_of k.moving n) true refl
 
-pub tidied_apart : (m k : Store) → AreApart m → HasFewer m k → AreAtBuds k.now.buds 0 k.ends → AreApart (tidied k)
+pub tidied_apart : (m k : Store) → AreRolesApart m → HasFewer m k → AreAtBuds k.now.buds 0 k.ends → AreRolesApart (tidied_store k)
 tidied_apart m k a f ends = tidied_from k (subst (AreNearly k) (sym f.lebs) (record {
   numbers = r.numbers;
   used = all_weaker (λ (row : Row). is_used m row.0 row.1) (λ row. is_used k row.0 row.1 || is_role kind.Leaf row.1) (fewer_use m k f) rs r.used;
   buds = subst (λ (buds : List Bud). list_all (λ bud. has_row kind.Bud rs bud.lnum) buds ≡ true) (sym f.buds) r.buds;
-  index = subst (λ (places : List Place). list_all (λ place. has_row kind.Index rs place.lnum) places ≡ true) (sym f.places) r.index;
+  index = subst (λ (places : List IndexNodePlace). list_all (λ place. has_row kind.Index rs place.lnum) places ≡ true) (sym f.places) r.index;
   leaves = f.live (λ n. has_row kind.Leaf rs n || has_row kind.Bud rs n) r.leaves;
   victim = ap (victim_row rs) f.moving ∙ r.victim;
 })) ends
@@ -210,13 +210,13 @@ tidied_apart m k a f ends = tidied_from k (subst (AreNearly k) (sym f.lebs) (rec
     r = to_rows m a
 
 -- ---- a sync
-pub padded_rows : (geo : RawGeometry) (lebs : List Leb) (at : Option At) → rows (padded geo lebs at) ≡ rows lebs
+pub padded_rows : (geo : RawGeometry) (lebs : List Leb) (at : Option At) → rows (padded_head geo lebs at) ≡ rows lebs
 padded_rows geo lebs None = refl
 padded_rows geo lebs (Some at) = text_rows at.lnum (last_gap geo at) lebs
 
-pub all_padded : (geo : RawGeometry) (lebs : List Leb) (ends : List (Option At)) → rows (fold (padded geo) lebs ends) ≡ rows lebs
+pub all_padded : (geo : RawGeometry) (lebs : List Leb) (ends : List (Option At)) → rows (fold (padded_head geo) lebs ends) ≡ rows lebs
 all_padded geo lebs [] = refl
-all_padded geo lebs (at ∷ ends) = all_padded geo (padded geo lebs at) ends ∙ padded_rows geo lebs at
+all_padded geo lebs (at ∷ ends) = all_padded geo (padded_head geo lebs at) ends ∙ padded_rows geo lebs at
 
 pub filled_ends : (geo : RawGeometry) (buds : List Bud) (k : ℕ) (ends : List (Option At)) → AreAtBuds buds k ends → AreAtBuds buds k (map (option_map (filled_up geo)) ends)
 filled_ends geo buds k [] are = tt
@@ -225,9 +225,9 @@ filled_ends geo buds k (Some at ∷ ends) are = (are.0, filled_ends geo buds (k 
 
 abbrev pub synced_store : Store → Store
 synced_store m = record m {
-  lebs = fold (padded m.geo) m.lebs m.ends;
+  lebs = fold (padded_head m.geo) m.lebs m.ends;
   ends = map (option_map (filled_up m.geo)) m.ends;
-  synced = counts_of m.now.buds;
+  synced = head_counts m.now.buds;
   held = [];
   orphans = map synced_orphan m.orphans;
 }
@@ -243,5 +243,5 @@ sync_fewer m = record {
   moving = refl;
 }
 
-pub sync_apart : (m : Store) → AreApart m → AreApart (sync m)
+pub sync_apart : (m : Store) → AreRolesApart m → AreRolesApart (sync m)
 sync_apart m a = tidied_apart m (synced_store m) a (sync_fewer m) (filled_ends m.geo m.now.buds 0 m.ends a.ends)

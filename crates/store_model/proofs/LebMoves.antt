@@ -10,9 +10,9 @@ use Rattle.index_tree.specs.Removal.{same_leaf}
 use Rattle.media_lpt.specs.declared.leb_kind.LebKind.{LebKind}
 use Rattle.media_lpt.specs.declared.leb_kind.LebKind.TheVariants as kind
 use Rattle.leaf_map.specs.Kept.{Kept, kept_at}
-use Rattle.store_model.specs.Events.{at_copy, Copying, end_at, in_next, move, moved_on, nodes_len}
+use Rattle.store_model.specs.Events.{at_its_copy, Copying, end_at, in_next, move, moved_on, nodes_len}
 use Rattle.store_model.specs.Heads.{changed_last, has_bud, with_copy}
-use Rattle.store_model.specs.Invariant.{AreApart, is_used, last_bud, lebs_taken}
+use Rattle.store_model.specs.Invariant.{AreRolesApart, is_used, last_bud, lebs_taken}
 use Rattle.store_model.specs.Lebs.{has_leaf, is_among, is_victim_of, stands_in}
 use Rattle.store_model.specs.Legal.{CanMove, FitHead, IfMoving}
 use Rattle.store_model.specs.Store.{At, Bud, leaf, Moving, Store}
@@ -62,17 +62,17 @@ same_leb x y h = by (leaf_rank x == leaf_rank y) (x.lnum == y.lnum) refl h
     by true false e h = absurd (false≢true h)
     by false b e h = absurd (false≢true h)
 
-copied_none : (c : Copying) (n : ℕ) (live : List Kept) → (c.copy.lnum == n) ≡ false → list_any (stands_in n) live ≡ false → list_any (stands_in n) (map (at_copy c) live) ≡ false
+copied_none : (c : Copying) (n : ℕ) (live : List Kept) → (c.copy.lnum == n) ≡ false → list_any (stands_in n) live ≡ false → list_any (stands_in n) (map (at_its_copy c) live) ≡ false
 copied_none c n [] away none = refl
 copied_none c n (x ∷ live) away none =
     let p = or_false (x.leaf.lnum == n) (list_any (stands_in n) live) none in
-    or_none (stands_in n (at_copy c x)) (list_any (stands_in n) (map (at_copy c) live)) (by (same_leaf x.leaf c.leaf.leaf) p.0) (copied_none c n live away p.1)
+    or_none (stands_in n (at_its_copy c x)) (list_any (stands_in n) (map (at_its_copy c) live)) (by (same_leaf x.leaf c.leaf.leaf) p.0) (copied_none c n live away p.1)
   where
     by : (b : Bool) → (x.leaf.lnum == n) ≡ false → stands_in n (cond b (record x { leaf = (kept_at c.copy).leaf }) x) ≡ false
     by true first = away
     by false first = first
 
-copied_stays : (c : Copying) (n : ℕ) (live : List Kept) → (c.leaf.leaf.lnum == n) ≡ false → list_any (stands_in n) live ≡ true → list_any (stands_in n) (map (at_copy c) live) ≡ true
+copied_stays : (c : Copying) (n : ℕ) (live : List Kept) → (c.leaf.leaf.lnum == n) ≡ false → list_any (stands_in n) live ≡ true → list_any (stands_in n) (map (at_its_copy c) live) ≡ true
 copied_stays c n [] away some = absurd (false≢true some)
 copied_stays c n (x ∷ live) away some = by (copied_stays c n live away) (either_of (x.leaf.lnum == n) (list_any (stands_in n) live) some)
   where
@@ -80,15 +80,15 @@ copied_stays c n (x ∷ live) away some = by (copied_stays c n live away) (eithe
     first here true e = absurd (false≢true (sym away ∙ ap (λ (k : ℕ). k == n) (sym (same_leb x.leaf c.leaf.leaf e)) ∙ here))
     first here false e = here
 
-    by : (list_any (stands_in n) live ≡ true → list_any (stands_in n) (map (at_copy c) live) ≡ true) → ((x.leaf.lnum == n) ≡ true) ⊎ (list_any (stands_in n) live ≡ true) → list_any (stands_in n) (map (at_copy c) (x ∷ live)) ≡ true
-    by rest (inl here) = or_left (stands_in n (at_copy c x)) (list_any (stands_in n) (map (at_copy c) live)) (first here (same_leaf x.leaf c.leaf.leaf) refl)
-    by rest (inr e) = or_right (stands_in n (at_copy c x)) (list_any (stands_in n) (map (at_copy c) live)) (rest e)
+    by : (list_any (stands_in n) live ≡ true → list_any (stands_in n) (map (at_its_copy c) live) ≡ true) → ((x.leaf.lnum == n) ≡ true) ⊎ (list_any (stands_in n) live ≡ true) → list_any (stands_in n) (map (at_its_copy c) (x ∷ live)) ≡ true
+    by rest (inl here) = or_left (stands_in n (at_its_copy c x)) (list_any (stands_in n) (map (at_its_copy c) live)) (first here (same_leaf x.leaf c.leaf.leaf) refl)
+    by rest (inr e) = or_right (stands_in n (at_its_copy c x)) (list_any (stands_in n) (map (at_its_copy c) live)) (rest e)
 
-copied_all : (test : ℕ → Bool) (c : Copying) (live : List Kept) → test c.copy.lnum ≡ true → list_all (λ x. test x.leaf.lnum) live ≡ true → list_all (λ x. test x.leaf.lnum) (map (at_copy c) live) ≡ true
+copied_all : (test : ℕ → Bool) (c : Copying) (live : List Kept) → test c.copy.lnum ≡ true → list_all (λ x. test x.leaf.lnum) live ≡ true → list_all (λ x. test x.leaf.lnum) (map (at_its_copy c) live) ≡ true
 copied_all test c [] t h = refl
 copied_all test c (x ∷ live) t h =
     let p = and_parts (test x.leaf.lnum) (list_all (λ x. test x.leaf.lnum) live) h in
-    and_from (test (at_copy c x).leaf.lnum) (list_all (λ x. test x.leaf.lnum) (map (at_copy c) live)) (by (same_leaf x.leaf c.leaf.leaf) p.0) (copied_all test c live t p.1)
+    and_from (test (at_its_copy c x).leaf.lnum) (list_all (λ x. test x.leaf.lnum) (map (at_its_copy c) live)) (by (same_leaf x.leaf c.leaf.leaf) p.0) (copied_all test c live t p.1)
   where
     by : (b : Bool) → test x.leaf.lnum ≡ true → test (cond b (record x { leaf = (kept_at c.copy).leaf }) x).leaf.lnum ≡ true
     by true h = t
@@ -110,7 +110,7 @@ from_victim m n lnum in_victim away = by m.moving refl
         let other : (moving.victim == n) ≡ false = rw e at away in
         ap (λ (k : ℕ). k == n) is ∙ other
 
-pub move_apart : (m : Store) (c : Copying) → CanMove m c → AreApart m → AreApart (move c m)
+pub move_apart : (m : Store) (c : Copying) → CanMove m c → AreRolesApart m → AreRolesApart (move c m)
 move_apart m c can a = by (end_at m.ends 0) refl can.fits
   where
     k : Store
@@ -125,14 +125,14 @@ move_apart m c can a = by (end_at m.ends 0) refl can.fits
     none : (n : ℕ) (role : LebKind) → has_row kind.Bud rs c.copy.lnum ≡ true → has_row role rs n ≡ true → (c.copy.lnum == n) ≡ false → has_leaf m n ≡ false → has_leaf k n ≡ false
     none n role bud there away h =
         let p = or_false (list_any (stands_in n) m.live) (list_any (stands_in n) m.held) h in
-        or_none (list_any (stands_in n) (map (at_copy c) m.live)) (list_any (stands_in n) m.held) (copied_none c n m.live away p.0) p.1
+        or_none (list_any (stands_in n) (map (at_its_copy c) m.live)) (list_any (stands_in n) m.held) (copied_none c n m.live away p.0) p.1
 
     stays : (n : ℕ) → is_victim_of m.moving n ≡ false → has_leaf m n ≡ true → has_leaf k n ≡ true
     stays n away h = of (either_of (list_any (stands_in n) m.live) (list_any (stands_in n) m.held) h)
       where
         of : (list_any (stands_in n) m.live ≡ true) ⊎ (list_any (stands_in n) m.held ≡ true) → has_leaf k n ≡ true
-        of (inl e) = or_left (list_any (stands_in n) (map (at_copy c) m.live)) (list_any (stands_in n) m.held) (copied_stays c n m.live (from_victim m n c.leaf.leaf.lnum can.victim away) e)
-        of (inr e) = or_right (list_any (stands_in n) (map (at_copy c) m.live)) (list_any (stands_in n) m.held) e
+        of (inl e) = or_left (list_any (stands_in n) (map (at_its_copy c) m.live)) (list_any (stands_in n) m.held) (copied_stays c n m.live (from_victim m n c.leaf.leaf.lnum can.victim away) e)
+        of (inr e) = or_right (list_any (stands_in n) (map (at_its_copy c) m.live)) (list_any (stands_in n) m.held) e
 
     leaf_use : (n : ℕ) (v : Bool) → is_victim_of m.moving n ≡ v → (has_leaf m n || v) ≡ true → (has_leaf k n || v) ≡ true
     leaf_use n true e h = or_right (has_leaf k n) true refl
@@ -152,7 +152,7 @@ move_apart m c can a = by (end_at m.ends 0) refl can.fits
         and_from (not (has_leaf k n)) (is_among (lebs_taken k.next) n)
         (not_more (has_leaf m n) (has_leaf k n) (none n kind.Taken bud there (other_leb rs c.copy.lnum n kind.Bud kind.Taken r.numbers bud there refl)) p.0) (ap (λ (taken : List ℕ). is_among taken n) (same_taken (in_next (with_copy c.copy) 0) m.next (λ next. refl)) ∙ p.1)
 
-    by : (o : Option At) → end_at m.ends 0 ≡ o → FitHead m o (c.copy ∷ []) → AreApart k
+    by : (o : Option At) → end_at m.ends 0 ≡ o → FitHead m o (c.copy ∷ []) → AreRolesApart k
     by None e fits = absurd fits
     by (Some at) e fits =
         let bud : has_row kind.Bud rs c.copy.lnum ≡ true = subst (λ (n : ℕ). has_row kind.Bud rs n ≡ true) (sym fits.0.0) (head_role m 0 at a e) in

@@ -8,11 +8,11 @@ use Rattle.std.proofs.lemmas.List.Folds.{list_all-append, list_any-append}
 use Rattle.media_lpt.specs.declared.leb_kind.LebKind.{LebKind}
 use Rattle.media_lpt.specs.declared.leb_kind.LebKind.TheVariants as kind
 use Rattle.leaf_map.specs.Kept.{Kept}
-use Rattle.store_model.specs.Events.{changed_end, end_at, in_next, new_bud, open_leb, opened_for, padded}
-use Rattle.store_model.specs.Invariant.{AreApart, AreAtBuds, is_used, last_bud}
+use Rattle.store_model.specs.Events.{changed_end, end_at, in_next, new_bud, open_leb, opened_for, padded_head}
+use Rattle.store_model.specs.Invariant.{AreRolesApart, AreAtBuds, is_used, last_bud}
 use Rattle.store_model.specs.Lebs.{changed_leb, has_role, is_role, is_victim_of}
 use Rattle.store_model.specs.Legal.{are_distinct}
-use Rattle.store_model.specs.Store.{At, Bud, Leb, Moving, Place, Store}
+use Rattle.store_model.specs.Store.{At, Bud, Leb, Moving, IndexNodePlace, Store}
 use Rattle.store_model.proofs.LebFrees.{padded_rows}
 use Rattle.store_model.proofs.LebPuts.{other_leb, same_taken}
 use Rattle.store_model.proofs.LebRows.{AreRows, Row, Uses, all_in, all_weaker, from_rows, has_row, numbers_kept, numbers_of, role_row, rows, to_rows, used_follows, used_kept, victim_row}
@@ -115,9 +115,9 @@ same_victim head n (Some moving) = by (head == 0)
     by false = refl
 
 pub open_lebs : (m : Store) (head lnum : ℕ) → rows (open_leb head lnum m).lebs ≡ map (open_row lnum) (rows m.lebs)
-open_lebs m head lnum = open_rows lnum (padded m.geo m.lebs (end_at m.ends head)) ∙ ap (map (open_row lnum)) (padded_rows m.geo m.lebs (end_at m.ends head))
+open_lebs m head lnum = open_rows lnum (padded_head m.geo m.lebs (end_at m.ends head)) ∙ ap (map (open_row lnum)) (padded_rows m.geo m.lebs (end_at m.ends head))
 
-pub open_apart : (m : Store) (head lnum : ℕ) → has_role kind.Free m.lebs lnum ≡ true → AreApart m → AreApart (open_leb head lnum m)
+pub open_apart : (m : Store) (head lnum : ℕ) → has_role kind.Free m.lebs lnum ≡ true → AreRolesApart m → AreRolesApart (open_leb head lnum m)
 open_apart m head lnum empty a = from_rows k (subst (AreRows k) (sym (open_lebs m head lnum)) (record {
   numbers = ap are_distinct (numbers_kept (open_row lnum) (open_number lnum) rs) ∙ r.numbers;
   used = used_kept m k (open_row lnum) rs (λ row there h. use_of row h (row.0 == lnum) refl) rs (all_in rs) r.used;
@@ -125,7 +125,7 @@ open_apart m head lnum empty a = from_rows k (subst (AreRows k) (sym (open_lebs 
       ∙ and_from (list_all (λ (bud : Bud). has_row kind.Bud new bud.lnum) m.now.buds) (has_row kind.Bud new lnum && true)
       (all_weaker (λ (bud : Bud). has_row kind.Bud rs bud.lnum) (λ bud. has_row kind.Bud new bud.lnum) (λ bud h. open_keeps kind.Bud lnum bud.lnum rs r.numbers free refl h) m.now.buds r.buds)
       (and_from (has_row kind.Bud new lnum) true (opened_bud kind.Free lnum rs free) refl);
-  index = all_weaker (λ (place : Place). has_row kind.Index rs place.lnum) (λ place. has_row kind.Index new place.lnum) (λ place h. open_keeps kind.Index lnum place.lnum rs r.numbers free refl h) m.now.places r.index;
+  index = all_weaker (λ (place : IndexNodePlace). has_row kind.Index rs place.lnum) (λ place. has_row kind.Index new place.lnum) (λ place h. open_keeps kind.Index lnum place.lnum rs r.numbers free refl h) m.now.places r.index;
   leaves = all_weaker (λ (x : Kept). has_row kind.Leaf rs x.leaf.lnum || has_row kind.Bud rs x.leaf.lnum) (λ x. has_row kind.Leaf new x.leaf.lnum || has_row kind.Bud new x.leaf.lnum) leaf m.live r.leaves;
   victim = opened_victim m.moving r.victim;
 })) (open_ends head lnum 0 head (record { lnum = lnum; offs = 0; written = 0 }) m.now.buds m.ends (omega arith) refl a.ends)

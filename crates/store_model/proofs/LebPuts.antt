@@ -7,10 +7,10 @@ use Rattle.std.proofs.lemmas.Bool.{and_parts, eqb-true, false≢true}
 use Rattle.media_lpt.specs.declared.leb_kind.LebKind.{LebKind}
 use Rattle.media_lpt.specs.declared.leb_kind.LebKind.TheVariants as kind
 use Rattle.store_model.specs.Events.{after_part, changed_end, credit, end_at, granted, Held, in_next, moved_on, nodes_len, paid, Part, Payment, Putting, with_items}
-use Rattle.store_model.specs.Heads.{has_bud, with_group}
-use Rattle.store_model.specs.Invariant.{AreApart, AreAtBuds, last_bud, lebs_taken}
+use Rattle.store_model.specs.Heads.{has_bud, with_head_group}
+use Rattle.store_model.specs.Invariant.{AreRolesApart, AreAtBuds, last_bud, lebs_taken}
 use Rattle.store_model.specs.Lebs.{is_role}
-use Rattle.store_model.specs.Legal.{are_distinct, AreParts, FitHead, IsPart, StandFrom}
+use Rattle.store_model.specs.Legal.{are_distinct, AreLegalParts, FitHead, IsLegalPart, StandFrom}
 use Rattle.store_model.specs.Store.{At, Bud, Carried, Item, leaf, Leb, Next, Store}
 use Rattle.store_model.proofs.LebLeaves.{AreIn, group_all, group_none, group_stays}
 use Rattle.store_model.proofs.LebRows.{AreRows, Row, Uses, all_in, from_rows, has_row, numbers_of, one_role, rows, self_role, to_rows, used_follows, used_stays}
@@ -43,28 +43,28 @@ last_passes test head l (bud ∷ buds) h e = let p = and_parts (test bud.lnum) (
 
 -- ---- a group changes no bud's head or LEB
 pub buds_pass : (test : Bud → Bool) → ((bud : Bud) (groups : List (List Carried)) → test (record bud { groups = groups }) ≡ test bud) → (h : ℕ) (group : List Carried) (buds : List Bud)
-    → list_all test (with_group h group buds) ≡ list_all test buds
+    → list_all test (with_head_group h group buds) ≡ list_all test buds
 buds_pass test same h group [] = refl
 buds_pass test same h group (bud ∷ buds) = by (buds_pass test same h group buds) ((bud.head == h) && not (has_bud h buds)) refl
   where
-    by : list_all test (with_group h group buds) ≡ list_all test buds → (b : Bool) → ((bud.head == h) && not (has_bud h buds)) ≡ b → list_all test (with_group h group (bud ∷ buds)) ≡ list_all test (bud ∷ buds)
+    by : list_all test (with_head_group h group buds) ≡ list_all test buds → (b : Bool) → ((bud.head == h) && not (has_bud h buds)) ≡ b → list_all test (with_head_group h group (bud ∷ buds)) ≡ list_all test (bud ∷ buds)
     by rest true e = rw e (ap (λ z. z && list_all test buds) (same bud (bud.groups ++ group ∷ [])))
     by rest false e = rw e (ap (λ z. test bud && z) rest)
 
 pub buds_have : (test : Bud → Bool) → ((bud : Bud) (groups : List (List Carried)) → test (record bud { groups = groups }) ≡ test bud) → (h : ℕ) (group : List Carried) (buds : List Bud)
-    → list_any test (with_group h group buds) ≡ list_any test buds
+    → list_any test (with_head_group h group buds) ≡ list_any test buds
 buds_have test same h group [] = refl
 buds_have test same h group (bud ∷ buds) = by (buds_have test same h group buds) ((bud.head == h) && not (has_bud h buds)) refl
   where
-    by : list_any test (with_group h group buds) ≡ list_any test buds → (b : Bool) → ((bud.head == h) && not (has_bud h buds)) ≡ b → list_any test (with_group h group (bud ∷ buds)) ≡ list_any test (bud ∷ buds)
+    by : list_any test (with_head_group h group buds) ≡ list_any test buds → (b : Bool) → ((bud.head == h) && not (has_bud h buds)) ≡ b → list_any test (with_head_group h group (bud ∷ buds)) ≡ list_any test (bud ∷ buds)
     by rest true e = rw e (ap (λ z. z || list_any test buds) (same bud (bud.groups ++ group ∷ [])))
     by rest false e = rw e (ap (λ z. test bud || z) rest)
 
-pub last_put : (head h : ℕ) (group : List Carried) (buds : List Bud) → last_bud (with_group h group buds) head ≡ last_bud buds head
+pub last_put : (head h : ℕ) (group : List Carried) (buds : List Bud) → last_bud (with_head_group h group buds) head ≡ last_bud buds head
 last_put head h group [] = refl
 last_put head h group (bud ∷ buds) = by (last_put head h group buds) ((bud.head == h) && not (has_bud h buds)) refl
   where
-    by : last_bud (with_group h group buds) head ≡ last_bud buds head → (b : Bool) → ((bud.head == h) && not (has_bud h buds)) ≡ b → last_bud (with_group h group (bud ∷ buds)) head ≡ last_bud (bud ∷ buds) head
+    by : last_bud (with_head_group h group buds) head ≡ last_bud buds head → (b : Bool) → ((bud.head == h) && not (has_bud h buds)) ≡ b → last_bud (with_head_group h group (bud ∷ buds)) head ≡ last_bud (bud ∷ buds) head
     by rest true e = rw e refl
     by rest false e = rw e (ap (λ (o : Option ℕ). option_or o (cond (bud.head == head) (Some bud.lnum) None)) rest)
 
@@ -112,14 +112,14 @@ same_taken f None same = refl
 same_taken f (Some next) same = same next
 
 -- a head's LEB is a bud
-pub head_role : (m : Store) (head : ℕ) (at : At) → AreApart m → end_at m.ends head ≡ Some at → has_row kind.Bud (rows m.lebs) at.lnum ≡ true
+pub head_role : (m : Store) (head : ℕ) (at : At) → AreRolesApart m → end_at m.ends head ≡ Some at → has_row kind.Bud (rows m.lebs) at.lnum ≡ true
 head_role m head at a e = last_passes (has_row kind.Bud (rows m.lebs)) head at.lnum m.now.buds (to_rows m a).buds (end_bud m.now.buds 0 head head m.ends at (omega arith) a.ends e)
 
 pub part_lebs : (m : Store) (part : Part) (o : Option At) → end_at m.ends part.head ≡ o → rows (after_part m part).lebs ≡ rows m.lebs
 part_lebs m part None e = rw e refl
 part_lebs m part (Some at) e = rw e (text_rows at.lnum (map leaf (map (λ c. c.placed) part.group)) m.lebs)
 
-pub part_apart : (m : Store) (part : Part) → IsPart m part → AreApart m → AreApart (after_part m part)
+pub part_apart : (m : Store) (part : Part) → IsLegalPart m part → AreRolesApart m → AreRolesApart (after_part m part)
 part_apart m part is a = by (end_at m.ends part.head) refl is.fits
   where
     k : Store
@@ -140,10 +140,10 @@ part_apart m part is a = by (end_at m.ends part.head) refl is.fits
       none = λ away h. group_none lnum at.lnum part.group held in_leb (other_leb rs at.lnum lnum kind.Bud role r.numbers bud there away) h;
       victim = refl;
       buds = λ h. buds_have (λ bud. bud.lnum == lnum) (λ bud groups. refl) part.head part.group m.now.buds ∙ h;
-      next = same_taken (in_next (with_group part.head part.group) (length part.group)) m.next (λ next. refl);
+      next = same_taken (in_next (with_head_group part.head part.group) (length part.group)) m.next (λ next. refl);
     }
 
-    by : (o : Option At) → end_at m.ends part.head ≡ o → FitHead m o (map (λ c. c.placed) part.group) → AreApart k
+    by : (o : Option At) → end_at m.ends part.head ≡ o → FitHead m o (map (λ c. c.placed) part.group) → AreRolesApart k
     by None e fits = absurd fits
     by (Some at) e fits =
         let in_leb = placed_in at.lnum at.offs part.group fits.0 in
@@ -158,17 +158,17 @@ part_apart m part is a = by (end_at m.ends part.head) refl is.fits
         }))
         (ends_go_on m.now.buds k.now.buds 0 part.head (moved_on m.geo (nodes_len (map (λ c. c.placed) part.group))) m.ends (λ n. last_put n part.head part.group m.now.buds) (λ at. refl) a.ends)
 
-pub parts_apart : (parts : List Part) (m : Store) → AreParts m parts → AreApart m → AreApart (fold after_part m parts)
+pub parts_apart : (parts : List Part) (m : Store) → AreLegalParts m parts → AreRolesApart m → AreRolesApart (fold after_part m parts)
 parts_apart [] m are a = a
 parts_apart (part ∷ parts) m are a = parts_apart parts (after_part m part) are.1 (part_apart m part are.0 a)
 
 -- what pays, and the index, are no matter of LEBs
-pub put_apart : (p : Putting) (m : Store) → AreParts m p.parts → AreApart m → AreApart (record (paid p.payment (fold after_part m p.parts)) { index = p.index })
+pub put_apart : (p : Putting) (m : Store) → AreLegalParts m p.parts → AreRolesApart m → AreRolesApart (record (paid p.payment (fold after_part m p.parts)) { index = p.index })
 put_apart p m are a = by p.payment (parts_apart p.parts m are a)
   where
     end : Store
     end = fold after_part m p.parts
 
-    by : (payment : Payment) → AreApart end → AreApart (record (paid payment end) { index = p.index })
+    by : (payment : Payment) → AreRolesApart end → AreRolesApart (record (paid payment end) { index = p.index })
     by credit a = record { numbers = a.numbers; used = a.used; buds = a.buds; ends = a.ends; index = a.index; leaves = a.leaves; victim = a.victim }
     by granted a = record { numbers = a.numbers; used = a.used; buds = a.buds; ends = a.ends; index = a.index; leaves = a.leaves; victim = a.victim }

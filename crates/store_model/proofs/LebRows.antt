@@ -5,7 +5,7 @@ use Rattle.std.specs.List.{AllByRecursion, list_all, list_any}
 use Rattle.std.proofs.lemmas.Bool.{and_parts, and_from, eqb-true, eq-eqb, false≢true}
 use Rattle.media_lpt.specs.declared.leb_kind.LebKind.{LebKind}
 use Rattle.media_lpt.specs.declared.leb_kind.LebKind.TheVariants as kind
-use Rattle.store_model.specs.Invariant.{AreApart, AreAtBuds, has_victim, is_used, lebs_taken}
+use Rattle.store_model.specs.Invariant.{AreRolesApart, AreAtBuds, has_victim, is_used, lebs_taken}
 use Rattle.store_model.specs.Lebs.{has_leaf, has_role, is_among, is_role, is_victim_of}
 use Rattle.store_model.specs.Legal.{are_distinct}
 use Rattle.store_model.specs.Store.{Leb, Moving, Store}
@@ -58,7 +58,7 @@ row_victim : (lebs : List Leb) (moving : Option Moving) → has_victim lebs movi
 row_victim lebs None = refl
 row_victim lebs (Some moving) = role_row kind.Leaf lebs moving.victim
 
-pub to_rows : (m : Store) → AreApart m → AreRows m (rows m.lebs)
+pub to_rows : (m : Store) → AreRolesApart m → AreRows m (rows m.lebs)
 to_rows m a = record {
   numbers = ap are_distinct (sym (row_numbers m.lebs)) ∙ a.numbers;
   used = sym (row_used m m.lebs) ∙ a.used;
@@ -70,7 +70,7 @@ to_rows m a = record {
   victim = sym (row_victim m.lebs m.moving) ∙ a.victim;
 }
 
-pub from_rows : (m : Store) → AreRows m (rows m.lebs) → AreAtBuds m.now.buds 0 m.ends → AreApart m
+pub from_rows : (m : Store) → AreRows m (rows m.lebs) → AreAtBuds m.now.buds 0 m.ends → AreRolesApart m
 from_rows m a ends = record {
   numbers = ap are_distinct (row_numbers m.lebs) ∙ a.numbers;
   used = row_used m m.lebs ∙ a.used;

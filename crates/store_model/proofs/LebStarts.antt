@@ -7,10 +7,10 @@ use Rattle.media_lpt.specs.declared.leb_kind.LebKind.{LebKind}
 use Rattle.media_lpt.specs.declared.leb_kind.LebKind.TheVariants as kind
 use Rattle.leaf_map.specs.Kept.{Kept}
 use Rattle.store_model.specs.Events.{start, take_leb}
-use Rattle.store_model.specs.Invariant.{AreApart, is_used, lebs_taken}
+use Rattle.store_model.specs.Invariant.{AreRolesApart, is_used, lebs_taken}
 use Rattle.store_model.specs.Lebs.{has_leaf, has_role, is_among, is_role}
 use Rattle.store_model.specs.Legal.{are_distinct, CanStart}
-use Rattle.store_model.specs.Store.{Bud, Leb, Moving, Next, Place, Store}
+use Rattle.store_model.specs.Store.{Bud, Leb, Moving, Next, IndexNodePlace, Store}
 use Rattle.store_model.proofs.LebRows.{AreRows, IsRowIn, Row, all_in, all_weaker, from_rows, has_row, numbers_kept, numbers_of, one_role, role_row, rows, to_rows, used_kept, victim_row}
 use Rattle.store_model.proofs.RecoveryCopies.{either_of}
 use Rattle.store_model.proofs.RecoveryOrder.{or_left, or_right}
@@ -78,12 +78,12 @@ start_use m taken n kind.Index e h = h
 start_use m taken n kind.Bud e h = h
 start_use m taken n kind.Taken e h = absurd (false≢true (sym (ap (λ (o : Option Next). is_among (lebs_taken o) n) e) ∙ (and_parts (not (has_leaf m n)) (is_among (lebs_taken m.next) n) h).1))
 
-pub start_apart : (m : Store) (taken : List ℕ) → CanStart m taken → AreApart m → AreApart (start taken m)
+pub start_apart : (m : Store) (taken : List ℕ) → CanStart m taken → AreRolesApart m → AreRolesApart (start taken m)
 start_apart m taken can a = from_rows k (subst (AreRows k) (sym (take_rows taken m.lebs)) (record {
   numbers = ap are_distinct (numbers_kept (take_row taken) (take_number taken) rs) ∙ r.numbers;
   used = used_kept m k (take_row taken) rs (λ row there h. use_of row there h (is_among taken row.0) refl) rs (all_in rs) r.used;
   buds = all_weaker (λ (bud : Bud). has_row kind.Bud rs bud.lnum) (λ bud. has_row kind.Bud new bud.lnum) (λ bud h. take_keeps kind.Bud taken bud.lnum rs r.numbers free refl h) m.now.buds r.buds;
-  index = all_weaker (λ (place : Place). has_row kind.Index rs place.lnum) (λ place. has_row kind.Index new place.lnum) (λ place h. take_keeps kind.Index taken place.lnum rs r.numbers free refl h) m.now.places r.index;
+  index = all_weaker (λ (place : IndexNodePlace). has_row kind.Index rs place.lnum) (λ place. has_row kind.Index new place.lnum) (λ place h. take_keeps kind.Index taken place.lnum rs r.numbers free refl h) m.now.places r.index;
   leaves = all_weaker (λ (x : Kept). has_row kind.Leaf rs x.leaf.lnum || has_row kind.Bud rs x.leaf.lnum) (λ x. has_row kind.Leaf new x.leaf.lnum || has_row kind.Bud new x.leaf.lnum) leaf m.live r.leaves;
   victim = victim_taken m.moving r.victim;
 })) a.ends

@@ -8,10 +8,10 @@ use Rattle.std.specs.Option.{option_map}
 use Rattle.media_lpt.specs.declared.leb_kind.LebKind.{LebKind}
 use Rattle.media_lpt.specs.declared.leb_kind.LebKind.TheVariants as kind
 use Rattle.store_model.specs.Events.{after_part, credit, drop_inode, granted, in_next, new_bud, open_leb, paid, Part, Payment, put, Putting, sync}
-use Rattle.store_model.specs.Heads.{with_group}
-use Rattle.store_model.specs.Invariant.{AreApart, IsTaking}
+use Rattle.store_model.specs.Heads.{with_head_group}
+use Rattle.store_model.specs.Invariant.{AreRolesApart, IsTaking}
 use Rattle.store_model.specs.Lebs.{has_role, is_among}
-use Rattle.store_model.specs.Store.{Bud, Index, Next, Place, Store}
+use Rattle.store_model.specs.Store.{Bud, StoreIndex, Next, IndexNodePlace, Store}
 use Rattle.store_model.proofs.LebCounts.{part_rows, sync_rows}
 use Rattle.store_model.proofs.LebDrops.{dropped_store}
 use Rattle.store_model.proofs.LebFrees.{keeps_bud, freed_number, freed_row, freed_rows, keeps_index, keeps_taken, synced_store}
@@ -40,7 +40,7 @@ pub taking_buds : (change : List Bud → List Bud) (n : ℕ) (m k : Store) (next
 taking_buds change n m k None taken index buds t = tt
 taking_buds change n m k (Some next) taken index buds t = (
   all_weaker (has_role kind.Taken m.lebs) (has_role kind.Taken k.lebs) taken next.taken t.0,
-  all_weaker (λ (place : Place). has_role kind.Index m.lebs place.lnum || is_among next.taken place.lnum) (λ place. has_role kind.Index k.lebs place.lnum || is_among next.taken place.lnum)
+  all_weaker (λ (place : IndexNodePlace). has_role kind.Index m.lebs place.lnum || is_among next.taken place.lnum) (λ place. has_role kind.Index k.lebs place.lnum || is_among next.taken place.lnum)
       (λ place h. some_more (has_role kind.Index m.lebs place.lnum) (has_role kind.Index k.lebs place.lnum) (is_among next.taken place.lnum) (index place.lnum) h) next.view.places t.1,
   t.2,
   buds next.view.buds t.3,
@@ -52,7 +52,7 @@ pub taking_same : (m k : Store) (next : Option Next) → Keeps kind.Taken m k �
 taking_same m k None taken index buds t = tt
 taking_same m k (Some next) taken index buds t = (
   all_weaker (has_role kind.Taken m.lebs) (has_role kind.Taken k.lebs) taken next.taken t.0,
-  all_weaker (λ (place : Place). has_role kind.Index m.lebs place.lnum || is_among next.taken place.lnum) (λ place. has_role kind.Index k.lebs place.lnum || is_among next.taken place.lnum)
+  all_weaker (λ (place : IndexNodePlace). has_role kind.Index m.lebs place.lnum || is_among next.taken place.lnum) (λ place. has_role kind.Index k.lebs place.lnum || is_among next.taken place.lnum)
       (λ place h. some_more (has_role kind.Index m.lebs place.lnum) (has_role kind.Index k.lebs place.lnum) (is_among next.taken place.lnum) (index place.lnum) h) next.view.places t.1,
   t.2,
   all_weaker (λ (bud : Bud). has_role kind.Bud m.lebs bud.lnum) (λ bud. has_role kind.Bud k.lebs bud.lnum) (λ bud h. buds bud.lnum h) next.view.buds t.3,
@@ -68,14 +68,14 @@ of_rows role m k g same keeps lnum h =
 pub of_same : (role : LebKind) (m k : Store) → rows k.lebs ≡ rows m.lebs → Keeps role m k
 of_same role m k same lnum h = role_row role k.lebs lnum ∙ ap (λ (rs : List Row). has_row role rs lnum) same ∙ sym (role_row role m.lebs lnum) ∙ h
 
-part_buds : (m : Store) (part : Part) → KeepsBuds (with_group part.head part.group) m (after_part m part)
+part_buds : (m : Store) (part : Part) → KeepsBuds (with_head_group part.head part.group) m (after_part m part)
 part_buds m part buds h =
     buds_pass (λ bud. has_role kind.Bud (after_part m part).lebs bud.lnum) (λ bud groups. refl) part.head part.group buds
     ∙ all_weaker (λ (bud : Bud). has_role kind.Bud m.lebs bud.lnum) (λ bud. has_role kind.Bud (after_part m part).lebs bud.lnum) (λ bud e. of_same kind.Bud m (after_part m part) (part_rows m part) bud.lnum e) buds h
 
 pub part_taking : (m : Store) (part : Part) → IsTaking m m.next → IsTaking (after_part m part) (after_part m part).next
 part_taking m part t =
-    taking_buds (with_group part.head part.group) (length part.group) m (after_part m part) m.next (of_same kind.Taken m (after_part m part) (part_rows m part)) (of_same kind.Index m (after_part m part) (part_rows m part)) (part_buds m part) t
+    taking_buds (with_head_group part.head part.group) (length part.group) m (after_part m part) m.next (of_same kind.Taken m (after_part m part) (part_rows m part)) (of_same kind.Index m (after_part m part) (part_rows m part)) (part_buds m part) t
 
 parts_taking : (parts : List Part) (m : Store) → IsTaking m m.next → IsTaking (fold after_part m parts) (fold after_part m parts).next
 parts_taking [] m t = t
@@ -91,7 +91,7 @@ put_taking m p t = by p.payment (parts_taking p.parts m t)
     by credit t = taking_same end (record (paid credit end) { index = p.index }) end.next (λ n h. h) (λ n h. h) (λ n h. h) t
     by granted t = taking_same end (record (paid granted end) { index = p.index }) end.next (λ n h. h) (λ n h. h) (λ n h. h) t
 
-pub open_taking : (m : Store) (head lnum : ℕ) → has_role kind.Free m.lebs lnum ≡ true → AreApart m → IsTaking m m.next → IsTaking (open_leb head lnum m) (open_leb head lnum m).next
+pub open_taking : (m : Store) (head lnum : ℕ) → has_role kind.Free m.lebs lnum ≡ true → AreRolesApart m → IsTaking m m.next → IsTaking (open_leb head lnum m) (open_leb head lnum m).next
 open_taking m head lnum empty a t =
     let k : Store = open_leb head lnum m in
     let r = to_rows m a in
@@ -113,7 +113,7 @@ sync_taking m t =
     (of_rows kind.Index m (sync m) g (sync_rows m) (λ n h. row_kept kind.Index g (freed_number (synced_store m)) (keeps_index (synced_store m)) (rows m.lebs) n h))
     (of_rows kind.Bud m (sync m) g (sync_rows m) (λ n h. row_kept kind.Bud g (freed_number (synced_store m)) (keeps_bud (synced_store m)) (rows m.lebs) n h)) t
 
-pub drop_taking : (m : Store) (ino : ℕ) (index : Index) → IsTaking m m.next → IsTaking (drop_inode ino index m) (drop_inode ino index m).next
+pub drop_taking : (m : Store) (ino : ℕ) (index : StoreIndex) → IsTaking m m.next → IsTaking (drop_inode ino index m) (drop_inode ino index m).next
 drop_taking m ino index t =
     let k : Store = dropped_store ino index m in
     let g : Row → Row = freed_row k in

@@ -5,11 +5,11 @@ use Rattle.index_tree.specs.Order.{key_rank}
 use Rattle.index_tree.specs.Removal.{same_leaf}
 use Rattle.fs_model.specs.Proper.{IsProper}
 use Rattle.store_model.specs.Events.{after, Open, put}
-use Rattle.store_model.specs.Legal.{AreLegal, CanOpen, CanPut, IsPart, IsIndexAfter}
+use Rattle.store_model.specs.Legal.{AreEventsLegal, CanOpen, CanPut, IsLegalPart, IsIndexAfter}
 use Rattle.store_model.specs.Store.{Store}
-use Rattle.store_model.specs.Worked.{am_entry, am_inode, am_leaves, am_tree, changed_index, put_am, putting_am, rooted}
+use Rattle.store_model.specs.Worked.{am_entry, am_inode, am_leaves, am_tree, changed_index, put_am, putting_am, rooted_store}
 
-pub opened : CanOpen rooted 1 22
+pub opened : CanOpen rooted_store 1 22
 opened = record { head_is = omega arith; empty = refl; log = refl; settled = record { empty = omega arith; index = omega arith } }
 
 pub am_is_proper : IsProper am_tree
@@ -28,9 +28,9 @@ am_is_proper = record {
 }
 
 abbrev before : Store
-before = after (Open 1 22) rooted
+before = after (Open 1 22) rooted_store
 
-part : IsPart before (record { head = 1; group = am_entry ∷ am_inode ∷ [] })
+part : IsLegalPart before (record { head = 1; group = am_entry ∷ am_inode ∷ [] })
 part = record {
   head = inl refl;
   data_nodes = λ other. absurd (omega (arith, other));
@@ -56,5 +56,5 @@ can = record {
   settled = record { empty = omega arith; index = omega arith };
 }
 
-pub legal : AreLegal rooted put_am
+pub legal : AreEventsLegal rooted_store put_am
 legal = (opened, (can, tt))

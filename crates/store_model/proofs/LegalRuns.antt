@@ -5,14 +5,14 @@ use Rattle.index_tree.specs.Order.{key_rank}
 use Rattle.index_tree.specs.Removal.{same_leaf}
 use Rattle.fs_model.specs.Proper.{IsProper}
 use Rattle.store_model.specs.Events.{after, Begin, Move, Open, put, run, Start, Sync}
-use Rattle.store_model.specs.Legal.{AreLegal, CanBegin, CanFree, CanMove, CanOpen, CanPut, CanStart, IsPart, IsIndexAfter}
+use Rattle.store_model.specs.Legal.{AreEventsLegal, CanBegin, CanFree, CanMove, CanOpen, CanPut, CanStart, IsLegalPart, IsIndexAfter}
 use Rattle.store_model.specs.Store.{Store}
-use Rattle.store_model.specs.Worked.{bb_entry, bb_inode, bb_leaves, bb_tree, changed_index, collected, moving_entry, moving_file, moving_root, one_file, put_am, putting_bb, rooted, whole_commit}
+use Rattle.store_model.specs.Worked.{bb_entry, bb_inode, bb_leaves, bb_tree, changed_index, collected_events, moving_entry, moving_file, moving_root, one_file, put_am, putting_bb, rooted_store, whole_commit}
 use Rattle.store_model.proofs.LegalPut.{can, opened}
 
 -- ---- a commit
 abbrev am_put : Store
-am_put = run put_am rooted
+am_put = run put_am rooted_store
 
 abbrev am_synced : Store
 am_synced = after Sync am_put
@@ -48,7 +48,7 @@ bb_is_proper = record {
   numbers = refl;
 }
 
-part : IsPart started (record { head = 1; group = bb_entry ∷ bb_inode ∷ [] })
+part : IsLegalPart started (record { head = 1; group = bb_entry ∷ bb_inode ∷ [] })
 part = record {
   head = inl refl;
   data_nodes = λ other. absurd (omega (arith, other));
@@ -76,7 +76,7 @@ puts = record {
 }
 
 -- each event of the commit
-pub legal_commit : AreLegal rooted whole_commit
+pub legal_commit : AreEventsLegal rooted_store whole_commit
 legal_commit = (opened, (can, (tt, (starts, (puts, (omega arith, ((refl, refl), (refl, tt))))))))
 
 -- ---- a collection
@@ -139,5 +139,5 @@ unfolding key_rank r5_of same_leaf
 frees = record { synced = record { counts = refl; none_held = refl; orphans = refl }; empty = refl }
 
 -- each event of the collection
-pub legal_collection : AreLegal one_file collected
+pub legal_collection : AreEventsLegal one_file collected_events
 legal_collection = (begins, (opens, (root_moves, (entry_moves, (file_moves, (tt, (frees, tt)))))))

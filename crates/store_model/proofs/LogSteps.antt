@@ -6,11 +6,11 @@ use Rattle.std.proofs.Math.Nat.{add-mul-mod_self_right, div-mul-le_self, mul-mod
 use Rattle.std.proofs.lemmas.Nat.{div-add-mod', mul-le}
 use Rattle.ubifs_base.specs.declared.raw_geometry.RawGeometry.{RawGeometry}
 use Rattle.ubifs_base.specs.Geometry.{IsGeometry}
-use Rattle.store_model.specs.Events.{after_part, begin, changed_end, Copying, credit, drop_inode, end_commit, filled_up, free_victim, granted, in_next, move, next_log_leb, offer, offered, open_bud, open_buds, open_leb, paid, Part, Payment, put, Putting, reference_len, start, sync, whole_units, with_reference, write_index}
+use Rattle.store_model.specs.Events.{after_part, begin, changed_end, Copying, credit, drop_inode, end_commit, filled_up, free_victim, granted, in_next, move, next_log_leb, offer, offered, open_bud, open_buds, open_leb, paid, Part, Payment, put, Putting, reference_len, start, sync, whole_store_units, with_reference, write_index}
 use Rattle.store_model.specs.Heads.{begun_of, less}
 use Rattle.store_model.specs.Legal.{CanOpen, CanStart, kept_lebs, log_count, log_steps, next_section}
 use Rattle.store_model.specs.LogRing.{HasLogLebs, IsOnTheWay}
-use Rattle.store_model.specs.Store.{At, Bud, Index, LogAt, Moving, Next, Store}
+use Rattle.store_model.specs.Store.{At, Bud, StoreIndex, LogPlace, Moving, Next, Store}
 
 -- ---- the ring
 abbrev steps : ℕ → ℕ → ℕ → ℕ
@@ -109,10 +109,10 @@ record IsSameLog (m k : Store) : Type 0 where
   log : k.log ≡ m.log
   next : next_section k ≡ next_section m
 
-abbrev Kept : RawGeometry → ℕ → LogAt → Option ℕ → Type 0
+abbrev Kept : RawGeometry → ℕ → LogPlace → Option ℕ → Type 0
 Kept geo first log next = log_steps geo first log.leb + 1 + kept_lebs next ≤ geo.log_lebs
 
-abbrev OnTheWay : RawGeometry → ℕ → LogAt → Option ℕ → Type 0
+abbrev OnTheWay : RawGeometry → ℕ → LogPlace → Option ℕ → Type 0
 OnTheWay geo first log next = IsOnTheWay geo first log.leb next
 
 same_log : (m k : Store) → IsSameLog m k → HasLogLebs m → HasLogLebs k
@@ -120,17 +120,17 @@ same_log m k s h = record {
   heads = s.heads ∙ h.heads;
   synced = s.synced h.synced;
   first = subst (λ (g : RawGeometry). k.now.section < g.log_lebs) (sym s.geo) (subst (λ n. n < m.geo.log_lebs) (sym s.first) h.first);
-  last = subst (λ (g : RawGeometry). k.log.leb < g.log_lebs) (sym s.geo) (subst (λ (l : LogAt). l.leb < m.geo.log_lebs) (sym s.log) h.last);
-  within = subst (λ (g : RawGeometry). k.log.offs ≤ g.leb_size) (sym s.geo) (subst (λ (l : LogAt). l.offs ≤ m.geo.leb_size) (sym s.log) h.within);
-  unit = subst (λ (g : RawGeometry). k.log.offs % g.min_io ≡ 0) (sym s.geo) (subst (λ (l : LogAt). l.offs % m.geo.min_io ≡ 0) (sym s.log) h.unit);
+  last = subst (λ (g : RawGeometry). k.log.leb < g.log_lebs) (sym s.geo) (subst (λ (l : LogPlace). l.leb < m.geo.log_lebs) (sym s.log) h.last);
+  within = subst (λ (g : RawGeometry). k.log.offs ≤ g.leb_size) (sym s.geo) (subst (λ (l : LogPlace). l.offs ≤ m.geo.leb_size) (sym s.log) h.within);
+  unit = subst (λ (g : RawGeometry). k.log.offs % g.min_io ≡ 0) (sym s.geo) (subst (λ (l : LogPlace). l.offs % m.geo.min_io ≡ 0) (sym s.log) h.unit);
   kept =
       let a : Kept m.geo m.now.section m.log (next_section k) = subst (Kept m.geo m.now.section m.log) (sym s.next) h.kept in
-      let b : Kept m.geo m.now.section k.log (next_section k) = subst (λ (l : LogAt). Kept m.geo m.now.section l (next_section k)) (sym s.log) a in
+      let b : Kept m.geo m.now.section k.log (next_section k) = subst (λ (l : LogPlace). Kept m.geo m.now.section l (next_section k)) (sym s.log) a in
       let c : Kept m.geo k.now.section k.log (next_section k) = subst (λ (n : ℕ). Kept m.geo n k.log (next_section k)) (sym s.first) b in
       subst (λ (g : RawGeometry). Kept g k.now.section k.log (next_section k)) (sym s.geo) c;
   on_the_way =
       let a : OnTheWay m.geo m.now.section m.log (next_section k) = subst (OnTheWay m.geo m.now.section m.log) (sym s.next) h.on_the_way in
-      let b : OnTheWay m.geo m.now.section k.log (next_section k) = subst (λ (l : LogAt). OnTheWay m.geo m.now.section l (next_section k)) (sym s.log) a in
+      let b : OnTheWay m.geo m.now.section k.log (next_section k) = subst (λ (l : LogPlace). OnTheWay m.geo m.now.section l (next_section k)) (sym s.log) a in
       let c : OnTheWay m.geo k.now.section k.log (next_section k) = subst (λ (n : ℕ). OnTheWay m.geo n k.log (next_section k)) (sym s.first) b in
       subst (λ (g : RawGeometry). OnTheWay g k.now.section k.log (next_section k)) (sym s.geo) c;
 }
@@ -184,12 +184,12 @@ offer_log m h = same_log m (offer m) (record { geo = refl; heads = refl; synced 
     by None = refl
     by (Some next) = refl
 
-pub drop_log : (m : Store) (ino : ℕ) (index : Index) → HasLogLebs m → HasLogLebs (drop_inode ino index m)
+pub drop_log : (m : Store) (ino : ℕ) (index : StoreIndex) → HasLogLebs m → HasLogLebs (drop_inode ino index m)
 drop_log m ino index h = same_log m (drop_inode ino index m) (record { geo = refl; heads = refl; synced = λ e. e; first = refl; log = refl; next = refl }) h
 
 -- ---- a log that grows
 -- a LEB's first bytes, whole units of at most 224
-first_units : (geo : RawGeometry) (n : ℕ) → IsGeometry geo → n ≤ 224 → whole_units geo n ≤ geo.leb_size
+first_units : (geo : RawGeometry) (n : ℕ) → IsGeometry geo → n ≤ 224 → whole_store_units geo n ≤ geo.leb_size
 first_units geo n g few =
     let unit = g.min_io.1 in
     let size = g.leb_size.0 in
@@ -202,7 +202,7 @@ way_further geo first leb further (Some section) more way = (way.0, way.1, omega
 pub open_log : (m : Store) (head lnum : ℕ) → CanOpen m head lnum → IsGeometry m.geo → HasLogLebs m → HasLogLebs (open_leb head lnum m)
 open_log m head lnum can g h = by (nat_le (m.log.offs + reference_len m.geo) m.geo.leb_size) refl can.log
   where
-    Grown : LogAt → Type 0
+    Grown : LogPlace → Type 0
     Grown log =
         (log.leb < m.geo.log_lebs) × (log.offs ≤ m.geo.leb_size) × (log.offs % m.geo.min_io ≡ 0)
         × (log_steps m.geo m.now.section log.leb + 1 + kept_lebs (next_section m) ≤ m.geo.log_lebs) × IsOnTheWay m.geo m.now.section log.leb (next_section m)
@@ -214,7 +214,7 @@ open_log m head lnum can g h = by (nat_le (m.log.offs + reference_len m.geo) m.g
         of None = omega arith
         of (Some n) = omega arith
 
-    grown : (log : LogAt) → with_reference m.geo m.log ≡ log → Grown log → HasLogLebs (open_leb head lnum m)
+    grown : (log : LogPlace) → with_reference m.geo m.log ≡ log → Grown log → HasLogLebs (open_leb head lnum m)
     grown log is w =
         let k : Store = open_leb head lnum m in
         let now : Store = record m { log = log } in

@@ -6,8 +6,8 @@ use Rattle.media_lpt.specs.declared.leb_kind.LebKind.{LebKind}
 use Rattle.media_lpt.specs.declared.leb_kind.LebKind.TheVariants as kind
 use Rattle.ubifs_base.specs.declared.raw_geometry.RawGeometry.{RawGeometry}
 use Rattle.leaf_map.specs.Kept.{Placed}
-use Rattle.store_model.specs.Events.{after, after_part, Begin, credit, Drop, End, end_at, end_commit, Event, Free, free_victim, granted, last_gap, Move, node_items, Offer, Open, padded, paid, Part, Payment, Put, put, Putting, role_after, role_then, Start, Sync, take_leb, view_branchings, with_items, with_nodes, Write, write_index}
-use Rattle.store_model.specs.Lebs.{emptied, freed, has_leaf, has_node, is_among, is_role, is_victim_of}
+use Rattle.store_model.specs.Events.{after, after_part, Begin, credit, Drop, End, end_at, end_commit, Event, Free, free_victim, granted, last_gap, Move, node_items, Offer, Open, padded_head, paid, Part, Payment, Put, put, Putting, role_after, role_then, Start, Sync, take_leb, view_branchings, with_items, with_nodes, Write, write_index}
+use Rattle.store_model.specs.Lebs.{emptied_leb, freed, has_leaf, has_node, is_among, is_role, is_victim_of}
 use Rattle.store_model.specs.Store.{At, Item, leaf, Leb, Moving, Next, Store, View}
 use Rattle.store_model.proofs.LebDrops.{dropped_store}
 use Rattle.store_model.proofs.LebEnds.{ended_store}
@@ -23,18 +23,18 @@ map_lnums f keeps (leb ∷ lebs) = ap (λ (n : ℕ). n ∷ lnums (map f lebs)) (
 with_lnums : (n : ℕ) (items : List Item) (lebs : List Leb) → lnums (with_items n items lebs) ≡ lnums lebs
 with_lnums n items lebs = same_lnums n (λ leb. record leb { text = leb.text ++ items }) (λ leb. refl) lebs
 
-padded_lnums : (geo : RawGeometry) (lebs : List Leb) (at : Option At) → lnums (padded geo lebs at) ≡ lnums lebs
+padded_lnums : (geo : RawGeometry) (lebs : List Leb) (at : Option At) → lnums (padded_head geo lebs at) ≡ lnums lebs
 padded_lnums geo lebs None = refl
 padded_lnums geo lebs (Some at) = with_lnums at.lnum (last_gap geo at) lebs
 
-all_padded_lnums : (geo : RawGeometry) (lebs : List Leb) (ends : List (Option At)) → lnums (fold (padded geo) lebs ends) ≡ lnums lebs
+all_padded_lnums : (geo : RawGeometry) (lebs : List Leb) (ends : List (Option At)) → lnums (fold (padded_head geo) lebs ends) ≡ lnums lebs
 all_padded_lnums geo lebs [] = refl
-all_padded_lnums geo lebs (at ∷ ends) = all_padded_lnums geo (padded geo lebs at) ends ∙ padded_lnums geo lebs at
+all_padded_lnums geo lebs (at ∷ ends) = all_padded_lnums geo (padded_head geo lebs at) ends ∙ padded_lnums geo lebs at
 
 freed_lnums : (k : Store) (lebs : List Leb) → lnums (map (freed k) lebs) ≡ lnums lebs
 freed_lnums k lebs = map_lnums (freed k) (λ leb. by leb (is_role kind.Leaf leb.role && not (has_leaf k leb.lnum) && not (is_victim_of k.moving leb.lnum))) lebs
   where
-    by : (leb : Leb) (b : Bool) → (cond b (emptied leb) leb).lnum ≡ leb.lnum
+    by : (leb : Leb) (b : Bool) → (cond b (emptied_leb leb) leb).lnum ≡ leb.lnum
     by leb true = refl
     by leb false = refl
 
@@ -50,7 +50,7 @@ role_lnum view leb kind.Free = refl
 role_lnum view leb kind.Leaf = refl
 role_lnum view leb kind.Index = by (has_node view.places leb.lnum)
   where
-    by : (b : Bool) → (cond b leb (emptied leb)).lnum ≡ leb.lnum
+    by : (b : Bool) → (cond b leb (emptied_leb leb)).lnum ≡ leb.lnum
     by true = refl
     by false = refl
 role_lnum view leb kind.Bud = by (list_any (λ bud. bud.lnum == leb.lnum) view.buds)
@@ -87,7 +87,7 @@ put_same m p = by p.payment (parts_same p.parts m)
 
 free_same : (m : Store) (moving : Option Moving) → IsSameArea m (free_victim m moving)
 free_same m None = record { geo = refl; lebs = refl }
-free_same m (Some moving) = record { geo = refl; lebs = same_lnums moving.victim emptied (λ leb. refl) m.lebs }
+free_same m (Some moving) = record { geo = refl; lebs = same_lnums moving.victim emptied_leb (λ leb. refl) m.lebs }
 
 write_same : (m : Store) (next : Option Next) → IsSameArea m (write_index m next)
 write_same m None = record { geo = refl; lebs = refl }
@@ -102,8 +102,8 @@ end_same m (Some next) = record { geo = refl; lebs = freed_lnums (ended_store m 
 
 same_area : (m : Store) (event : Event) → IsSameArea m (after event m)
 same_area m (Put p) = put_same m p
-same_area m (Open head lnum) = record { geo = refl; lebs = same_lnums lnum opened (λ leb. refl) (padded m.geo m.lebs (end_at m.ends head)) ∙ padded_lnums m.geo m.lebs (end_at m.ends head) }
-same_area m Sync = record { geo = refl; lebs = freed_lnums (synced_store m) (fold (padded m.geo) m.lebs m.ends) ∙ all_padded_lnums m.geo m.lebs m.ends }
+same_area m (Open head lnum) = record { geo = refl; lebs = same_lnums lnum opened (λ leb. refl) (padded_head m.geo m.lebs (end_at m.ends head)) ∙ padded_lnums m.geo m.lebs (end_at m.ends head) }
+same_area m Sync = record { geo = refl; lebs = freed_lnums (synced_store m) (fold (padded_head m.geo) m.lebs m.ends) ∙ all_padded_lnums m.geo m.lebs m.ends }
 same_area m (Begin victim) = record { geo = refl; lebs = refl }
 same_area m (Move c) = record { geo = refl; lebs = nodes_lnums m 0 (c.copy ∷ []) }
 same_area m Free = free_same m m.moving

@@ -19,7 +19,7 @@ use Rattle.fs_model.specs.declared.inode.Kind.{Kind}
 use Rattle.group_nodes.specs.Nodes.{bits_of, inode_of, kind_of_bits, kind_of_type}
 use Rattle.leaf_map.specs.Kept.{Kept, kept_at, node_key, shown, shown_by}
 use Rattle.leaf_map.specs.LeafMap.{HasKeyOf, IsKeyed, IsLeafMap, are_apart, shows_same}
-use Rattle.store_model.specs.Events.{Copying, at_copy}
+use Rattle.store_model.specs.Events.{Copying, at_its_copy}
 use Rattle.store_model.specs.Legal.{IsLeafOf}
 
 -- ---- the leaf is the only one at its place
@@ -110,7 +110,7 @@ keyed_at [] x k i = absurd i
 keyed_at (y ∷ live) x k (inl e) = subst IsKeyed e k.0
 keyed_at (y ∷ live) x k (inr i) = keyed_at live x k.1 i
 
-pub copy_node : (c : Copying) (x : Kept) → (at_copy c x).node ≡ x.node
+pub copy_node : (c : Copying) (x : Kept) → (at_its_copy c x).node ≡ x.node
 copy_node c x = by (same_leaf x.leaf c.leaf.leaf)
   where
     by : (b : Bool) → (cond b (record x { leaf = (kept_at c.copy).leaf }) x).node ≡ x.node
@@ -118,7 +118,7 @@ copy_node c x = by (same_leaf x.leaf c.leaf.leaf)
     by false = refl
 
 copy_key : (c : Copying) (live : List Kept) (x : Kept) → AreDistinct (map (λ x. x.leaf) live) → AllByRecursion IsKeyed live → IsLeafOf live c.leaf → c.copy.node ≡ c.leaf.node → IsLeafOf live x
-    → (at_copy c x).leaf.key ≡ x.leaf.key
+    → (at_its_copy c x).leaf.key ≡ x.leaf.key
 copy_key c live x d k i same j = by (same_leaf x.leaf c.leaf.leaf) refl
   where
     by : (b : Bool) → same_leaf x.leaf c.leaf.leaf ≡ b → (cond b (record x { leaf = (kept_at c.copy).leaf }) x).leaf.key ≡ x.leaf.key
@@ -137,9 +137,9 @@ all_leaves [] = tt
 all_leaves (x ∷ live) = (inl refl, more_leaves x live live (all_leaves live))
 
 pub copies_stay : (c : Copying) (all live : List Kept) → AreDistinct (map (λ x. x.leaf) all) → AllByRecursion IsKeyed all → IsLeafOf all c.leaf → c.copy.node ≡ c.leaf.node → AllByRecursion (IsLeafOf all) live
-    → AllByRecursion (StaysLeaf (at_copy c)) live
+    → AllByRecursion (StaysLeaf (at_its_copy c)) live
 copies_stay c all [] d k i same h = tt
 copies_stay c all (x ∷ live) d k i same h = ((copy_key c all x d k i same h.0, copy_node c x), copies_stay c all live d k i same h.1)
 
-pub copied_map : (c : Copying) (live : List Kept) → AreDistinct (map (λ x. x.leaf) live) → IsLeafOf live c.leaf → c.copy.node ≡ c.leaf.node → IsLeafMap live → IsLeafMap (map (at_copy c) live)
-copied_map c live d i same is = moved_map (at_copy c) live (copies_stay c live live d is.keyed i same (all_leaves live)) is
+pub copied_map : (c : Copying) (live : List Kept) → AreDistinct (map (λ x. x.leaf) live) → IsLeafOf live c.leaf → c.copy.node ≡ c.leaf.node → IsLeafMap live → IsLeafMap (map (at_its_copy c) live)
+copied_map c live d i same is = moved_map (at_its_copy c) live (copies_stay c live live d is.keyed i same (all_leaves live)) is

@@ -15,7 +15,7 @@ use Rattle.fs_laws.specs.Orders.{numbers}
 use Rattle.store_model.specs.Events.{after, after_part, Begin, credit, Drop, drop_inode, End, end_commit, Event, Free, free_victim, granted, Move, Offer, Open, orphan_in, paid, Part, Payment, Put, put, Putting, Start, Sync, synced_orphan, Write, write_index}
 use Rattle.store_model.specs.Invariant.{IsStore}
 use Rattle.store_model.specs.Legal.{IsLegalEvent}
-use Rattle.store_model.specs.Store.{Index, Moving, Next, Orphan, Store}
+use Rattle.store_model.specs.Store.{StoreIndex, Moving, Next, Orphan, Store}
 use Rattle.store_model.proofs.RecoveryListed.{at_number}
 
 abbrev AreNameless : Store → Type 0
@@ -102,7 +102,7 @@ removed ino (e ∷ inodes) up = by (is_at (nat_cmp ino) e.0) refl (e.1.nlink == 
     by false at true z rest = rw (sym (at_is ino e.0) ∙ at, z) (ap (λ (ns : List ℕ). e.0 ∷ ns) rest)
     by false at false z rest = rw z rest
 
-drop_nameless : (m : Store) (ino : ℕ) (index : Index) → IsProper m.tree → AreNameless m → AreNameless (drop_inode ino index m)
+drop_nameless : (m : Store) (ino : ℕ) (index : StoreIndex) → IsProper m.tree → AreNameless m → AreNameless (drop_inode ino index m)
 drop_nameless m ino index proper h = others ino m.orphans ∙ ap (filter (λ k. not (k == ino))) h ∙ removed ino m.tree.inodes proper.inodes_ascend
 
 free_nameless : (m : Store) (moving : Option Moving) → AreNameless m → AreNameless (free_victim m moving)

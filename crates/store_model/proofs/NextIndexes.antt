@@ -17,9 +17,9 @@ use Rattle.space_sums.specs.Spaces.{IsNextIndex}
 use Rattle.store_model.specs.Events.{after, after_part, all_places, Begin, clean_places, credit, dirty_count, Drop, End, end_commit, Event, Free, free_victim, granted, Move, Offer, Open, paid, Payment, Put, put, Putting, start, Start, Sync, Write, write_index}
 use Rattle.store_model.specs.Indexed.{committed_index}
 use Rattle.store_model.specs.Invariant.{HasNextIndex, IsStore}
-use Rattle.store_model.specs.Lebs.{has_node, has_role, is_among, is_role, running_of, space_of, weight_of}
-use Rattle.store_model.specs.Legal.{are_distinct, CanStart, IsLegalEvent, KeepPlaces, nodes_of}
-use Rattle.store_model.specs.Store.{Leb, Moving, Next, Place, Store, View}
+use Rattle.store_model.specs.Lebs.{has_node, has_role, is_among, is_role, running_commit_of, space_of, weight_of}
+use Rattle.store_model.specs.Legal.{are_distinct, CanStart, IsLegalEvent, KeepPlaces, nodes_of_parts}
+use Rattle.store_model.specs.Store.{Leb, Moving, Next, IndexNodePlace, Store, View}
 use Rattle.store_model.proofs.LebCounts.{count_rows, row_count}
 use Rattle.store_model.proofs.LebRows.{all_in, has_row, IsRowIn, numbers_kept, numbers_of, one_role, role_row, Row, rows, to_rows}
 use Rattle.store_model.proofs.LebStarts.{take_number, take_row, take_rows}
@@ -110,7 +110,7 @@ num_index m d =
     omega (arith, less, roles, count)
 
 -- where a node stands is one of these LEBs
-node_in : (test : ℕ → Bool) (places : List Place) (n : ℕ) → list_all (λ place. test place.lnum) places ≡ true → has_node places n ≡ true → test n ≡ true
+node_in : (test : ℕ → Bool) (places : List IndexNodePlace) (n : ℕ) → list_all (λ place. test place.lnum) places ≡ true → has_node places n ≡ true → test n ≡ true
 node_in test [] n h i = absurd (false≢true i)
 node_in test (place ∷ places) n h i = let p = and_parts (test place.lnum) (list_all (λ place. test place.lnum) places) h in by p.0 (node_in test places n p.1) (either_of (place.lnum == n) (has_node places n) i)
   where
@@ -118,7 +118,7 @@ node_in test (place ∷ places) n h i = let p = and_parts (test place.lnum) (lis
     by first rest (inl e) = subst (λ (z : ℕ). test z ≡ true) (eqb-true place.lnum n e) first
     by first rest (inr e) = rest e
 
-num_places : (test : ℕ → Bool) (taken : List ℕ) (places : List Place) (numbers : List ℕ) → are_distinct numbers ≡ true → list_all (λ place. test place.lnum || is_among taken place.lnum) places ≡ true
+num_places : (test : ℕ → Bool) (taken : List ℕ) (places : List IndexNodePlace) (numbers : List ℕ) → are_distinct numbers ≡ true → list_all (λ place. test place.lnum || is_among taken place.lnum) places ≡ true
     → num_count (has_node places) numbers ≤ num_count test numbers + length taken
 num_places test taken places numbers d h =
     let less = num_less (has_node places) (λ n. test n || is_among taken n) (λ n i. node_in (λ n. test n || is_among taken n) places n h i) numbers in
@@ -157,14 +157,14 @@ view_weight m k n a b geo is =
     let put = is.put in
     ap (λ (g : RawGeometry). weight_of g b) geo ∙ ap (λ (shape : Shape). shape_weight m.geo.fanout shape + b.put) is.shape ∙ omega (arith, put)
 
-stays_small : (m k : Store) (n : ℕ) (a b : Next) → IsPutToBoth m k n → IsPutTo n a.view b.view → IsNextIndex m.geo (running_of m a) (space_of m) → IsNextIndex k.geo (running_of k b) (space_of k)
+stays_small : (m k : Store) (n : ℕ) (a b : Next) → IsPutToBoth m k n → IsPutTo n a.view b.view → IsNextIndex m.geo (running_commit_of m a) (space_of m) → IsNextIndex k.geo (running_commit_of k b) (space_of k)
 stays_small m k n a b y is h =
     let numbers : numbers_of (rows k.lebs) ≡ numbers_of (rows m.lebs) = number_rows k.lebs ∙ y.lebs ∙ sym (number_rows m.lebs) in
-    let count : (running_of k b).lebs ≡ (running_of m a).lebs =
-    count_numbers (has_node b.view.places) k.lebs ∙ ap (λ (ps : List Place). num_count (has_node ps) (numbers_of (rows k.lebs))) is.places ∙ ap (num_count (has_node a.view.places)) numbers
+    let count : (running_commit_of k b).lebs ≡ (running_commit_of m a).lebs =
+    count_numbers (has_node b.view.places) k.lebs ∙ ap (λ (ps : List IndexNodePlace). num_count (has_node ps) (numbers_of (rows k.lebs))) is.places ∙ ap (num_count (has_node a.view.places)) numbers
     ∙ sym (count_numbers (has_node a.view.places) m.lebs) in
     let now : (space_of k).weight ≡ (space_of m).weight + n = view_weight m k n m.now k.now y.geo y.now in
-    let then : (running_of k b).weight ≡ (running_of m a).weight + n = view_weight m k n a.view b.view y.geo is in
+    let then : (running_commit_of k b).weight ≡ (running_commit_of m a).weight + n = view_weight m k n a.view b.view y.geo is in
     let wider : index_lebs m.geo (space_of m).weight ≤ index_lebs m.geo (space_of k).weight = grows m.geo (space_of m).weight (space_of k).weight y.some (omega (arith, now)) in
     let asks : index_lebs k.geo (space_of k).weight ≡ index_lebs m.geo (space_of k).weight = ap (λ (g : RawGeometry). index_lebs g (space_of k).weight) y.geo in
     let lebs = h.lebs in
@@ -179,7 +179,7 @@ both_small m k n (Some a) (Some b) y are h = stays_small m k n a b y are h
 
 -- ---- a commit starts
 -- nodes that have a place stand in LEBs of the committed index
-pub nodes_there : (m : Store) → m.next ≡ None → IsStore m → list_all (λ o. option_map_or (λ (place : Place). has_role kind.Index m.lebs place.lnum) o true) m.index.places ≡ true
+pub nodes_there : (m : Store) → m.next ≡ None → IsStore m → list_all (λ o. option_map_or (λ (place : IndexNodePlace). has_role kind.Index m.lebs place.lnum) o true) m.index.places ≡ true
 nodes_there m idle s = kept_pass (has_role kind.Index m.lebs) m.now.shape m.now.places (rows_of m.index.shape) m.index.places
     (subst (λ (o : Option Next). KeepPlaces (committed_index (option_map_or (λ next. next.view) o m.now)) (rows_of m.index.shape) m.index.places) idle s.standing.indexed.last) s.apart.index
 
@@ -192,7 +192,7 @@ start_small m taken some can s = record {
     distinct : are_distinct (numbers_of (rows m.lebs)) ≡ true
     distinct = (to_rows m s.apart).numbers
 
-    counted : (places : List Place) → num_count (has_node places) (numbers_of (rows m.lebs)) ≤ 2 * index_lebs m.geo (space_of m).weight → count_by (λ leb. has_node places leb.lnum) (start taken m).lebs ≤ 2 * index_lebs m.geo (space_of m).weight
+    counted : (places : List IndexNodePlace) → num_count (has_node places) (numbers_of (rows m.lebs)) ≤ 2 * index_lebs m.geo (space_of m).weight → count_by (λ leb. has_node places leb.lnum) (start taken m).lebs ≤ 2 * index_lebs m.geo (space_of m).weight
     counted places small =
         let same = count_numbers (has_node places) (start taken m).lebs ∙ ap (num_count (has_node places)) (ap numbers_of (take_rows taken m.lebs) ∙ numbers_kept (take_row taken) (take_number taken) (rows m.lebs)) in
         subst (λ (z : ℕ). z ≤ 2 * index_lebs m.geo (space_of m).weight) (sym same) small
@@ -225,10 +225,10 @@ put_small m p some h = by p.payment (parts_put p.parts m) (each_main m (Put p))
     end : Store
     end = fold after_part m p.parts
 
-    by : (payment : Payment) → ArePut m end (length (nodes_of p.parts)) → map (λ leb. leb.lnum) (record (paid payment end) { index = p.index }).lebs ≡ map (λ leb. leb.lnum) m.lebs
+    by : (payment : Payment) → ArePut m end (length (nodes_of_parts p.parts)) → map (λ leb. leb.lnum) (record (paid payment end) { index = p.index }).lebs ≡ map (λ leb. leb.lnum) m.lebs
         → HasNextIndex (record (paid payment end) { index = p.index }) (record (paid payment end) { index = p.index }).next
-    by credit are lebs = both_small m (record (paid credit end) { index = p.index }) (length (nodes_of p.parts)) m.next end.next (record { some = some; geo = are.geo; lebs = lebs; now = are.now }) are.next h
-    by granted are lebs = both_small m (record (paid granted end) { index = p.index }) (length (nodes_of p.parts)) m.next end.next (record { some = some; geo = are.geo; lebs = lebs; now = are.now }) are.next h
+    by credit are lebs = both_small m (record (paid credit end) { index = p.index }) (length (nodes_of_parts p.parts)) m.next end.next (record { some = some; geo = are.geo; lebs = lebs; now = are.now }) are.next h
+    by granted are lebs = both_small m (record (paid granted end) { index = p.index }) (length (nodes_of_parts p.parts)) m.next end.next (record { some = some; geo = are.geo; lebs = lebs; now = are.now }) are.next h
 
 same_small : (m : Store) (event : Event) → 0 < index_nodes_per_leb m.geo → IsPutTo 0 m.now (after event m).now → ArePutTo 0 m.next (after event m).next → HasNextIndex m m.next → HasNextIndex (after event m) (after event m).next
 same_small m event some now are h = both_small m (after event m) 0 m.next (after event m).next (record { some = some; geo = each_geo m event; lebs = each_main m event; now = now }) are h

@@ -10,11 +10,11 @@ use Rattle.media_lpt.specs.declared.leb_kind.LebKind.TheVariants as kind
 use Rattle.index_tree.specs.Shape.{node_count}
 use Rattle.fs_model.specs.Cover.{index_lebs}
 use Rattle.store_model.specs.Events.{after, after_part, Begin, clean_places, credit, dirty_count, Drop, End, end_commit, Event, Free, free_victim, granted, in_next, Move, Offer, offered, Open, paid, Part, Payment, Put, put, Putting, start, Start, Sync, Write, write_index}
-use Rattle.store_model.specs.Heads.{with_group}
+use Rattle.store_model.specs.Heads.{with_head_group}
 use Rattle.store_model.specs.Invariant.{HasAllotted, IsAllotted, IsStore}
 use Rattle.store_model.specs.Lebs.{has_role, is_among, is_role, space_of}
 use Rattle.store_model.specs.Legal.{CanStart, IsLegalEvent}
-use Rattle.store_model.specs.Store.{Bud, Moving, Next, Place, Store}
+use Rattle.store_model.specs.Store.{Bud, Moving, Next, IndexNodePlace, Store}
 use Rattle.store_model.proofs.LebRows.{all_weaker, has_row, one_role, role_row, rows, to_rows}
 use Rattle.store_model.proofs.LebStarts.{taken_free}
 use Rattle.store_model.proofs.NextIndexes.{nodes_there}
@@ -37,7 +37,7 @@ write_allotted m (Some next) e h =
 
 parts_allotted : (parts : List Part) (m : Store) → HasAllotted m.geo m.next → HasAllotted (fold after_part m parts).geo (fold after_part m parts).next
 parts_allotted [] m h = h
-parts_allotted (part ∷ parts) m h = parts_allotted parts (after_part m part) (in_allotted m.geo (with_group part.head part.group) (length part.group) m.next h)
+parts_allotted (part ∷ parts) m h = parts_allotted parts (after_part m part) (in_allotted m.geo (with_head_group part.head part.group) (length part.group) m.next h)
 
 put_allotted : (m : Store) (p : Putting) → HasAllotted m.geo m.next → HasAllotted (put p m).geo (put p m).next
 put_allotted m p h = by p.payment (parts_allotted p.parts m h)
@@ -59,8 +59,8 @@ end_allotted m (Some next) h = tt
 
 -- ---- a commit starts
 -- a LEB of the index is none of those that were empty
-not_taken : (m : Store) (taken : List ℕ) → CanStart m taken → IsStore m → (o : Option Place) → option_map_or (λ (place : Place). has_role kind.Index m.lebs place.lnum) o true ≡ true
-    → option_map_or (λ (place : Place). not (is_among taken place.lnum)) o true ≡ true
+not_taken : (m : Store) (taken : List ℕ) → CanStart m taken → IsStore m → (o : Option IndexNodePlace) → option_map_or (λ (place : IndexNodePlace). has_role kind.Index m.lebs place.lnum) o true ≡ true
+    → option_map_or (λ (place : IndexNodePlace). not (is_among taken place.lnum)) o true ≡ true
 not_taken m taken can s None h = refl
 not_taken m taken can s (Some place) h = by (is_among taken place.lnum) refl
   where
@@ -74,9 +74,9 @@ not_taken m taken can s (Some place) h = by (is_among taken place.lnum) refl
         absurd (false≢true (subst (λ (r : LebKind). is_role kind.Free r ≡ true) same refl))
     by false e = refl
 
-record IsClean (m : Store) (taken : List ℕ) (clean : List (Option Place)) : Type 0 where
+record IsClean (m : Store) (taken : List ℕ) (clean : List (Option IndexNodePlace)) : Type 0 where
   lebs : length taken ≡ index_lebs m.geo (dirty_count clean)
-  apart : list_all (λ o. option_map_or (λ (place : Place). not (is_among taken place.lnum)) o true) clean ≡ true
+  apart : list_all (λ o. option_map_or (λ (place : IndexNodePlace). not (is_among taken place.lnum)) o true) clean ≡ true
 
 start_clean : (m : Store) (taken : List ℕ) → CanStart m taken → IsStore m → IsClean m taken (clean_places m)
 start_clean m taken can s = by (nat_le ((space_of m).index + index_lebs m.geo (dirty_count m.index.places)) (2 * index_lebs m.geo (space_of m).weight)) can.count
@@ -84,7 +84,7 @@ start_clean m taken can s = by (nat_le ((space_of m).index + index_lebs m.geo (d
     by : (b : Bool) → length taken ≡ cond b (index_lebs m.geo (dirty_count m.index.places)) (index_lebs m.geo (node_count m.index.shape)) → IsClean m taken (cond (not b) (map (λ place. None) m.index.places) m.index.places)
     by true long = record {
       lebs = long;
-      apart = all_weaker (λ (o : Option Place). option_map_or (λ (place : Place). has_role kind.Index m.lebs place.lnum) o true) (λ o. option_map_or (λ (place : Place). not (is_among taken place.lnum)) o true)
+      apart = all_weaker (λ (o : Option IndexNodePlace). option_map_or (λ (place : IndexNodePlace). has_role kind.Index m.lebs place.lnum) o true) (λ o. option_map_or (λ (place : IndexNodePlace). not (is_among taken place.lnum)) o true)
           (not_taken m taken can s) m.index.places (nodes_there m can.idle s);
     }
     by false long = record {

@@ -4,13 +4,13 @@ use Rattle.ubifs_base.specs.declared.raw_geometry.RawGeometry.{RawGeometry}
 use Rattle.index_tree.specs.Shape.{node_count}
 use Rattle.store_model.specs.Events.{after, all_places, Begin, clean_places, Drop, End, end_commit, Event, Free, free_victim, is_whole_commit, Move, Offer, Open, Put, Start, Sync, Write, write_index}
 use Rattle.store_model.specs.Legal.{IsLegalEvent}
-use Rattle.store_model.specs.Store.{Moving, Next, Place, Store}
+use Rattle.store_model.specs.Store.{Moving, Next, IndexNodePlace, Store}
 use Rattle.store_model.proofs.BackingCalls.{length_map}
 
 abbrev HasPlaces : Store → Type 0
 HasPlaces m = length m.index.places ≡ node_count m.index.shape
 
-as_many : (geo : RawGeometry) (taken : List ℕ) (n : ℕ) (places : List (Option Place)) → length (all_places geo taken n places) ≡ length places
+as_many : (geo : RawGeometry) (taken : List ℕ) (n : ℕ) (places : List (Option IndexNodePlace)) → length (all_places geo taken n places) ≡ length places
 as_many geo taken n [] = refl
 as_many geo taken n (None ∷ places) = ap (λ k. suc k) (as_many geo taken (n + 1) places)
 as_many geo taken n (Some place ∷ places) = ap (λ k. suc k) (as_many geo taken n places)
@@ -18,14 +18,14 @@ as_many geo taken n (Some place ∷ places) = ap (λ k. suc k) (as_many geo take
 as_many_clean : (m : Store) → length (clean_places m) ≡ length m.index.places
 as_many_clean m = by (is_whole_commit m)
   where
-    none : Option Place → Option Place
+    none : Option IndexNodePlace → Option IndexNodePlace
     none place = None
 
     by : (b : Bool) → length (cond b (map (λ place. None) m.index.places) m.index.places) ≡ length m.index.places
     by true = length_map none m.index.places
     by false = refl
 
-abbrev some_place : Place → Option Place
+abbrev some_place : IndexNodePlace → Option IndexNodePlace
 some_place place = Some place
 
 -- a commit gives each node its place

@@ -9,11 +9,11 @@ use Rattle.fs_model.specs.Proper.{ascends}
 use Rattle.fs_model.specs.Recovery.{Numbered}
 use Rattle.leaf_map.specs.Kept.{Kept}
 use Rattle.store_model.specs.Events.{in_next, new_bud, open_leb}
-use Rattle.store_model.specs.Heads.{copies_of, counts_of, groups_of, numbered}
+use Rattle.store_model.specs.Heads.{copies_of, head_counts, groups_of_head, numbered_group}
 use Rattle.store_model.specs.Invariant.{AreNumbered, HasNumbers, OfNext, are_given, are_other, are_within, head_numbers}
 use Rattle.store_model.specs.Store.{Bud, Next, Store}
 
-pub groups_open : (head h lnum : ℕ) (buds : List Bud) → groups_of head (buds ++ new_bud h lnum 0 ∷ []) ≡ groups_of head buds
+pub groups_open : (head h lnum : ℕ) (buds : List Bud) → groups_of_head head (buds ++ new_bud h lnum 0 ∷ []) ≡ groups_of_head head buds
 groups_open head h lnum [] = by (h == head)
   where
     by : (b : Bool) → flat_map (λ bud. bud.groups) (cond b (new_bud h lnum 0 ∷ []) []) ≡ []
@@ -21,7 +21,7 @@ groups_open head h lnum [] = by (h == head)
     by false = refl
 groups_open head h lnum (bud ∷ buds) = by (groups_open head h lnum buds) (bud.head == head)
   where
-    by : groups_of head (buds ++ new_bud h lnum 0 ∷ []) ≡ groups_of head buds → (b : Bool)
+    by : groups_of_head head (buds ++ new_bud h lnum 0 ∷ []) ≡ groups_of_head head buds → (b : Bool)
         → flat_map (λ x. x.groups) (cond b (bud ∷ filter (λ x. x.head == head) (buds ++ new_bud h lnum 0 ∷ [])) (filter (λ x. x.head == head) (buds ++ new_bud h lnum 0 ∷ [])))
         ≡ flat_map (λ x. x.groups) (cond b (bud ∷ filter (λ x. x.head == head) buds) (filter (λ x. x.head == head) buds))
     by same true = ap (λ groups. bud.groups ++ groups) same
@@ -63,7 +63,7 @@ given_more sqnum changes h =
 
 head_more : (sqnum head h lnum : ℕ) (buds : List Bud) → are_given sqnum (head_numbers buds head) ≡ true → are_given (sqnum + 1) (head_numbers (buds ++ new_bud h lnum 0 ∷ []) head) ≡ true
 head_more sqnum head h lnum buds g =
-    subst (λ groups. are_given (sqnum + 1) (flat_map numbered groups) ≡ true) (sym (groups_open head h lnum buds)) (given_more sqnum (head_numbers buds head) g)
+    subst (λ groups. are_given (sqnum + 1) (flat_map numbered_group groups) ≡ true) (sym (groups_open head h lnum buds)) (given_more sqnum (head_numbers buds head) g)
 
 apart_open : (h lnum : ℕ) (buds : List Bud) → are_other (head_numbers buds 1) (head_numbers buds 2) ≡ true
     → are_other (head_numbers (buds ++ new_bud h lnum 0 ∷ []) 1) (head_numbers (buds ++ new_bud h lnum 0 ∷ []) 2) ≡ true
@@ -79,7 +79,7 @@ next_more m h lnum (Some next) n = record {
   kept = kept_more m.sqnum next.view.kept n.kept;
 }
 
-pub counts_open : (h lnum : ℕ) (buds : List Bud) → counts_of (buds ++ new_bud h lnum 0 ∷ []) ≡ counts_of buds
+pub counts_open : (h lnum : ℕ) (buds : List Bud) → head_counts (buds ++ new_bud h lnum 0 ∷ []) ≡ head_counts buds
 counts_open h lnum buds = rw (copies_open h lnum buds, groups_open 1 h lnum buds, groups_open 2 h lnum buds) refl
 
 -- what is opened has no group yet, and its reference has the next number

@@ -17,14 +17,14 @@ use Rattle.fs_model.specs.Orphan.{all_drop_named, all_revive_none, drops_named, 
 use Rattle.fs_laws.specs.Maps.{key_cases, removed_other, set_here, set_other}
 use Rattle.fs_laws.specs.Orders.{numbers}
 use Rattle.leaf_map.specs.Kept.{Kept, shown_by}
-use Rattle.leaf_map.specs.Shown.{inodes_of, with_inode}
+use Rattle.leaf_map.specs.Shown.{inodes_of, with_shown_inode}
 use Rattle.store_model.specs.Events.{after, after_part, Begin, credit, Drop, drop_inode, End, end_commit, Event, Free, free_victim, granted, in_next, last_list, Move, next_list, Offer, offered, Open, paid, Part, Payment, Put, put, Putting, Start, start, Sync, Write, write_index}
 use Rattle.store_model.specs.Fits.{faced_now, next_lists}
-use Rattle.store_model.specs.Heads.{changes_of, with_copy, with_group}
-use Rattle.store_model.specs.Invariant.{AreOrphans, HasOrphans, HaveOrphans, is_listed, is_still_listed, IsStore, KeepOrphans}
+use Rattle.store_model.specs.Heads.{changes_of, with_copy, with_head_group}
+use Rattle.store_model.specs.Invariant.{AreViewOrphans, HasListedOrphans, HaveOrphans, is_listed, is_still_listed, IsStore, KeepOrphans}
 use Rattle.store_model.specs.Lebs.{is_among}
-use Rattle.store_model.specs.Legal.{AreParts, IsLegalEvent, IsPart}
-use Rattle.store_model.specs.Store.{Bud, Index, Moving, Next, Store}
+use Rattle.store_model.specs.Legal.{AreLegalParts, IsLegalEvent, IsLegalPart}
+use Rattle.store_model.specs.Store.{Bud, StoreIndex, Moving, Next, Store}
 use Rattle.store_model.proofs.JournalEvents.{listed_nameless}
 use Rattle.store_model.proofs.RecoveryCopies.{either_of}
 use Rattle.store_model.proofs.RecoveryListed.{at_number, has_none}
@@ -56,10 +56,10 @@ pub more_orphans : (p q : ℕ → Bool) → ((n : ℕ) → p n ≡ true → q n 
 more_orphans p q more kept h = both_orphans p p q (λ n a b. more n a) kept h h
 
 -- the lists that may be there have them
-pub have_orphans_now : (m : Store) → HasOrphans m → HaveOrphans (faced_now m) (faced_now m).lists
+pub have_orphans_now : (m : Store) → HasListedOrphans m → HaveOrphans (faced_now m) (faced_now m).lists
 have_orphans_now m h = by m.next h.later
   where
-    of : (next : Next) (b : Bool) → AreOrphans (is_among next.listed) m.now → HaveOrphans (faced_now m) (m.listed ∷ cond b (next.listed ∷ []) [])
+    of : (next : Next) (b : Bool) → AreViewOrphans (is_among next.listed) m.now → HaveOrphans (faced_now m) (m.listed ∷ cond b (next.listed ∷ []) [])
     of next true on = (h.now, (on, tt))
     of next false on = (h.now, tt)
 
@@ -120,7 +120,7 @@ record SameLists (m k : Store) : Type 0 where
   next : option_map orphans_of k.next ≡ option_map orphans_of m.next
   still : (n : ℕ) → is_still_listed m n ≡ true → is_still_listed k n ≡ true
 
-same_lists : (m k : Store) → SameLists m k → HasOrphans m → HasOrphans k
+same_lists : (m k : Store) → SameLists m k → HasListedOrphans m → HasListedOrphans k
 same_lists m k s h = record { now = rw (s.kept, s.listed) h.now; later = by m.next k.next s.next h.later }
   where
     by : (a b : Option Next) → option_map orphans_of b ≡ option_map orphans_of a → KeepOrphans m a → KeepOrphans k b
@@ -138,11 +138,11 @@ buds_lists : (change : List Bud → List Bud) (n : ℕ) (next : Option Next) →
 buds_lists change n None = refl
 buds_lists change n (Some next) = refl
 
-part_orphans : (m : Store) (part : Part) → IsPart m part → HasOrphans m → HasOrphans (after_part m part)
+part_orphans : (m : Store) (part : Part) → IsLegalPart m part → HasListedOrphans m → HasListedOrphans (after_part m part)
 part_orphans m part is h = same_lists m (after_part m part) (record {
   kept = refl;
   listed = refl;
-  next = buds_lists (with_group part.head part.group) (length part.group) m.next;
+  next = buds_lists (with_head_group part.head part.group) (length part.group) m.next;
   still = still;
 }) h
   where
@@ -153,17 +153,17 @@ part_orphans m part is h = same_lists m (after_part m part) (record {
         by (inl e) = or_left (is_nameless (after_part m part).tree n) (is_among m.closed n) (group_stays (changes_of part.group) m.tree n is.keeps.revives_none is.keeps.drops e)
         by (inr e) = or_right (is_nameless (after_part m part).tree n) (is_among m.closed n) e
 
-parts_orphans : (parts : List Part) (m : Store) → AreParts m parts → HasOrphans m → HasOrphans (fold after_part m parts)
+parts_orphans : (parts : List Part) (m : Store) → AreLegalParts m parts → HasListedOrphans m → HasListedOrphans (fold after_part m parts)
 parts_orphans [] m are h = h
 parts_orphans (part ∷ parts) m are h = parts_orphans parts (after_part m part) are.1 (part_orphans m part are.0 h)
 
-put_orphans : (m : Store) (p : Putting) → AreParts m p.parts → HasOrphans m → HasOrphans (put p m)
+put_orphans : (m : Store) (p : Putting) → AreLegalParts m p.parts → HasListedOrphans m → HasListedOrphans (put p m)
 put_orphans m p are h = by p.payment (parts_orphans p.parts m are h)
   where
     end : Store
     end = fold after_part m p.parts
 
-    by : (payment : Payment) → HasOrphans end → HasOrphans (record (paid payment end) { index = p.index })
+    by : (payment : Payment) → HasListedOrphans end → HasListedOrphans (record (paid payment end) { index = p.index })
     by credit h = record { now = h.now; later = h.later }
     by granted h = record { now = h.now; later = h.later }
 
@@ -172,7 +172,7 @@ closed_more : (m : Store) (ino n : ℕ) (b : Bool) → is_among m.closed n ≡ t
 closed_more m ino n true h = list_any-append (λ k. k == n) m.closed (ino ∷ []) ∙ or_left (is_among m.closed n) (is_among (ino ∷ []) n) h
 closed_more m ino n false h = h
 
-drop_still : (m : Store) (ino : ℕ) (index : Index) (n : ℕ) → is_among (last_list m) n ≡ true → is_still_listed m n ≡ true → is_still_listed (drop_inode ino index m) n ≡ true
+drop_still : (m : Store) (ino : ℕ) (index : StoreIndex) (n : ℕ) → is_among (last_list m) n ≡ true → is_still_listed m n ≡ true → is_still_listed (drop_inode ino index m) n ≡ true
 drop_still m ino index n on h = elim (key_cases nat_cmp numbers n ino) [
   | inl same ↦ or_right (is_nameless k.tree n) (is_among k.closed n) (closed same (is_among (last_list m) ino) (subst (λ (i : ℕ). is_among (last_list m) i ≡ true) same on))
   | inr other ↦ by other (either_of (is_nameless m.tree n) (is_among m.closed n) h)
@@ -190,7 +190,7 @@ drop_still m ino index n on h = elim (key_cases nat_cmp numbers n ino) [
     by other (inl e) = or_left (is_nameless (drop_inode ino index m).tree n) (is_among (drop_inode ino index m).closed n) (ap has_none (gone_stays m.tree ino n other) ∙ e)
     by other (inr e) = or_right (is_nameless (drop_inode ino index m).tree n) (is_among (drop_inode ino index m).closed n) (closed_more m ino n (is_among (last_list m) ino) e)
 
-drop_orphans : (m : Store) (ino : ℕ) (index : Index) → HasOrphans m → HasOrphans (drop_inode ino index m)
+drop_orphans : (m : Store) (ino : ℕ) (index : StoreIndex) → HasListedOrphans m → HasListedOrphans (drop_inode ino index m)
 drop_orphans m ino index h = record { now = h.now; later = by m.next refl h.later }
   where
     k : Store
@@ -273,7 +273,7 @@ leaves_lost (x ∷ kept) = by (shown_by x) (leaves_lost kept)
         (more_orphans (is_among (lost (inodes_of kept))) (is_among (ino ∷ lost (inodes_of kept))) (λ n g. or_right (ino == n) (is_among (lost (inodes_of kept)) n) g) kept h)
     of ino inode false h = h
 
-    by : (s : Option Change) → list_all (λ x. is_listed (is_among (lost (inodes_of kept))) (shown_by x)) kept ≡ true → Each (lost (with_inode s (inodes_of kept))) s
+    by : (s : Option Change) → list_all (λ x. is_listed (is_among (lost (inodes_of kept))) (shown_by x)) kept ≡ true → Each (lost (with_shown_inode s (inodes_of kept))) s
     by (Some (SetInode ino inode)) h = of ino inode (inode.nlink == 0) h
     by (Some (SetEntry e)) h = h
     by (Some (DropEntry dir name)) h = h
@@ -290,7 +290,7 @@ live_nameless m s = more_orphans (is_among (nameless m.tree)) (is_nameless m.tre
     inodes : inodes_of m.live ≡ m.tree.inodes
     inodes = ap (λ (t : Tree). t.inodes) s.files.tree
 
-start_orphans : (m : Store) (taken : List ℕ) → m.next ≡ None → IsStore m → HasOrphans (start taken m)
+start_orphans : (m : Store) (taken : List ℕ) → m.next ≡ None → IsStore m → HasListedOrphans (start taken m)
 start_orphans m taken idle s = record {
   now = s.orphans.now;
   later = (
@@ -301,14 +301,14 @@ start_orphans m taken idle s = record {
 }
 
 -- ---- each event
-plain : (m k : Store) → k.now.kept ≡ m.now.kept → k.listed ≡ m.listed → k.tree ≡ m.tree → k.closed ≡ m.closed → option_map orphans_of k.next ≡ option_map orphans_of m.next → HasOrphans m → HasOrphans k
+plain : (m k : Store) → k.now.kept ≡ m.now.kept → k.listed ≡ m.listed → k.tree ≡ m.tree → k.closed ≡ m.closed → option_map orphans_of k.next ≡ option_map orphans_of m.next → HasListedOrphans m → HasListedOrphans k
 plain m k kept listed tree closed next h = same_lists m k (record { kept = kept; listed = listed; next = next; still = λ n g. rw (tree, closed) g }) h
 
-free_orphans : (m : Store) (moving : Option Moving) → HasOrphans m → HasOrphans (free_victim m moving)
+free_orphans : (m : Store) (moving : Option Moving) → HasListedOrphans m → HasListedOrphans (free_victim m moving)
 free_orphans m None h = h
 free_orphans m (Some moving) h = plain m (free_victim m (Some moving)) refl refl refl refl refl h
 
-write_orphans : (m : Store) (next : Option Next) → m.next ≡ next → HasOrphans m → HasOrphans (write_index m next)
+write_orphans : (m : Store) (next : Option Next) → m.next ≡ next → HasListedOrphans m → HasListedOrphans (write_index m next)
 write_orphans m None e h = h
 write_orphans m (Some next) e h = plain m (write_index m (Some next)) refl refl refl refl (ap (option_map orphans_of) (sym e)) h
 
@@ -316,11 +316,11 @@ offer_next : (next : Option Next) → option_map orphans_of (option_map offered 
 offer_next None = refl
 offer_next (Some next) = refl
 
-end_orphans : (m : Store) (next : Option Next) → m.next ≡ next → HasOrphans m → HasOrphans (end_commit m next)
+end_orphans : (m : Store) (next : Option Next) → m.next ≡ next → HasListedOrphans m → HasListedOrphans (end_commit m next)
 end_orphans m None e h = h
 end_orphans m (Some next) e h = let later = subst (λ (o : Option Next). KeepOrphans m o) e h.later in record { now = later.1; later = later.2 }
 
-pub each_orphans : (m : Store) (event : Event) → IsLegalEvent m event → IsStore m → HasOrphans (after event m)
+pub each_orphans : (m : Store) (event : Event) → IsLegalEvent m event → IsStore m → HasListedOrphans (after event m)
 each_orphans m (Put p) can s = put_orphans m p can.parts s.orphans
 each_orphans m (Open head lnum) can s = plain m (after (Open head lnum) m) refl refl refl refl (buds_lists _ 0 m.next) s.orphans
 each_orphans m Sync can s = plain m (after Sync m) refl refl refl refl refl s.orphans

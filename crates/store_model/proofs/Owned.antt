@@ -22,17 +22,17 @@ use Rattle.fs_model.specs.Files.{Inodes, Tree, inode_at, with_block}
 use Rattle.fs_laws.specs.Maps.{key_cases, removed_other, set_here, set_other}
 use Rattle.fs_laws.specs.Orders.{numbers}
 use Rattle.group_nodes.specs.Nodes.{bits_of, inode_of, kind_of_bits, kind_of_type}
-use Rattle.leaf_map.specs.After.{Carries, goes, has_inode, is_gone, is_idle, is_inode, is_set, kept_by, put_leaf}
+use Rattle.leaf_map.specs.After.{ShowsChange, goes, has_inode, is_gone, is_idle, is_inode, is_set, kept_by, put_leaf}
 use Rattle.leaf_map.specs.Allowed.{HasInode}
 use Rattle.leaf_map.specs.Kept.{Kept, kept_at, node_key, shown, shown_by}
-use Rattle.leaf_map.specs.Shown.{inodes_of, with_inode}
+use Rattle.leaf_map.specs.Shown.{inodes_of, with_shown_inode}
 use Rattle.leaf_map.specs.Recovered.{highest_key}
 use Rattle.index_tree.specs.Distinct.{AreDistinct}
-use Rattle.store_model.specs.Events.{after_change, after_part, at_copy, Copying, credit, drop_inode, granted, Held, move, paid, Part, Payment, put, Putting}
+use Rattle.store_model.specs.Events.{after_change, after_part, at_its_copy, Copying, credit, drop_inode, granted, Held, move, paid, Part, Payment, put, Putting}
 use Rattle.store_model.specs.Heads.{changes_of}
 use Rattle.store_model.specs.Invariant.{AreOwned, HasFiles}
-use Rattle.store_model.specs.Legal.{AreParts, CanMove, IsCarried}
-use Rattle.store_model.specs.Store.{Carried, Index, Store}
+use Rattle.store_model.specs.Legal.{AreLegalParts, CanMove, IsCarried}
+use Rattle.store_model.specs.Store.{Carried, StoreIndex, Store}
 use Rattle.store_model.proofs.LebLeaves.{all_filter, all_put}
 use Rattle.store_model.proofs.LebRows.{all_weaker}
 use Rattle.store_model.proofs.Moves.{StaysLeaf, all_leaves, copies_stay}
@@ -41,7 +41,7 @@ use Rattle.store_model.proofs.RecoveryCopies.{either_of}
 
 -- ---- leaves and inodes
 -- leaves that have an inode show it
-has_step : (q : ℕ) (s : Option Change) (rest : Inodes) (b : Bool) → (b ≡ true → is_some (lookup (is_at (nat_cmp q)) rest) ≡ true) → (is_inode q s || b) ≡ true → is_some (lookup (is_at (nat_cmp q)) (with_inode s rest)) ≡ true
+has_step : (q : ℕ) (s : Option Change) (rest : Inodes) (b : Bool) → (b ≡ true → is_some (lookup (is_at (nat_cmp q)) rest) ≡ true) → (is_inode q s || b) ≡ true → is_some (lookup (is_at (nat_cmp q)) (with_shown_inode s rest)) ≡ true
 has_step q (Some (SetInode other i)) rest b more h = by (is_at (nat_cmp q) other) refl
   where
     by : (c : Bool) → is_at (nat_cmp q) other ≡ c → is_some (cond c (Some i) (lookup (is_at (nat_cmp q)) rest)) ≡ true
@@ -147,7 +147,7 @@ change_housed (SetBlock ino number bytes) new live tree shows has h = by (has_in
     by true e = all_put (λ x. housed t (shown_by x)) (is_gone (SetBlock ino number bytes)) new live (ap (housed t) (shows refl) ∙ block_keeps tree ino number bytes ino (has ino e)) old
     by false e = old
 
-carries_set : (change : Change) (node : LeafNode) → Carries change node → is_set change ≡ true → shown node ≡ Some change
+carries_set : (change : Change) (node : LeafNode) → ShowsChange change node → is_set change ≡ true → shown node ≡ Some change
 carries_set (SetInode ino i) node c e = c
 carries_set (SetEntry e) node c s = c
 carries_set (SetBlock ino number bytes) node c e = c
@@ -245,7 +245,7 @@ group_owned trees keeps [] h tree is s o = o
 group_owned trees keeps (c ∷ group) h tree is s o =
     group_owned trees keeps group (after_change h c) (applied tree c.change) is.1 (change_shows trees keeps c h.live tree is.0 s) (carried_owned c h.live tree is.0 s o)
 
-parts_owned : TreeLaw → KeptLaw → (parts : List Part) (m : Store) → AreParts m parts → Show m.live m.tree → IsOwned m.live m.tree → IsOwned (fold after_part m parts).live (fold after_part m parts).tree
+parts_owned : TreeLaw → KeptLaw → (parts : List Part) (m : Store) → AreLegalParts m parts → Show m.live m.tree → IsOwned m.live m.tree → IsOwned (fold after_part m parts).live (fold after_part m parts).tree
 parts_owned trees keeps [] m are s o = o
 parts_owned trees keeps (part ∷ parts) m are s o =
     let h : Held = record { live = m.live; held = m.held } in
@@ -257,7 +257,7 @@ from_owned m o = record { nodes = o.nodes; inodes = all_of_housed m.tree m.live 
 to_owned : (m : Store) → AreOwned m → IsOwned m.live m.tree
 to_owned m o = record { nodes = o.nodes; inodes = all_housed m.tree m.live o.inodes; low = o.highest }
 
-pub put_owned : TreeLaw → KeptLaw → (m : Store) (p : Putting) → AreParts m p.parts → HasFiles m → AreOwned m → AreOwned (put p m)
+pub put_owned : TreeLaw → KeptLaw → (m : Store) (p : Putting) → AreLegalParts m p.parts → HasFiles m → AreOwned m → AreOwned (put p m)
 put_owned trees keeps m p are f o = by p.payment (parts_owned trees keeps p.parts m are (record { leaves = f.leaves; tree_is = f.tree }) (to_owned m o))
   where
     end : Store
@@ -267,7 +267,7 @@ put_owned trees keeps m p are f o = by p.payment (parts_owned trees keeps p.part
     by credit o = from_owned (record (paid credit end) { index = p.index }) o
     by granted o = from_owned (record (paid granted end) { index = p.index }) o
 
-pub drop_owned : (m : Store) (ino : ℕ) (index : Index) → AreOwned m → AreOwned (drop_inode ino index m)
+pub drop_owned : (m : Store) (ino : ℕ) (index : StoreIndex) → AreOwned m → AreOwned (drop_inode ino index m)
 drop_owned m ino index o =
     let old = to_owned m o in
     let tree : Tree = without_inode m.tree ino in
@@ -292,7 +292,7 @@ moved_owned go tree (x ∷ live) s o =
 
 pub move_owned : (m : Store) (c : Copying) → CanMove m c → AreDistinct (map (λ x. x.leaf) m.live) → HasFiles m → AreOwned m → AreOwned (move c m)
 move_owned m c can d f o =
-    from_owned (move c m) (moved_owned (at_copy c) m.tree m.live (copies_stay c m.live m.live d f.leaves.keyed can.live can.node_is (all_leaves m.live)) (to_owned m o))
+    from_owned (move c m) (moved_owned (at_its_copy c) m.tree m.live (copies_stay c m.live m.live d f.leaves.keyed can.live can.node_is (all_leaves m.live)) (to_owned m o))
 
 -- where the leaves and the files stay
 pub same_owned : (m k : Store) → k.live ≡ m.live → k.tree ≡ m.tree → AreOwned m → AreOwned k

@@ -12,19 +12,19 @@ use Rattle.fs_model.specs.Orphan.{revives_none}
 use Rattle.fs_model.specs.Proper.{IsProper, is_inode_node}
 use Rattle.fs_laws.specs.Alike.{HasNodes, IsBuiltAlike}
 use Rattle.store_model.specs.Events.{after_part, credit, granted, paid, Part, Payment, put, Putting}
-use Rattle.store_model.specs.Heads.{numbered}
-use Rattle.store_model.specs.Legal.{AreParts, KeepsProper, nodes_of}
+use Rattle.store_model.specs.Heads.{numbered_group}
+use Rattle.store_model.specs.Legal.{AreLegalParts, KeepsProper, nodes_of_parts}
 use Rattle.store_model.specs.Store.{Carried, Store}
 use Rattle.store_model.proofs.LebRows.{all_weaker}
 use Rattle.store_model.proofs.Numbers.{last_consecutive}
 use Rattle.store_model.proofs.PutSums.{length_carried}
 
 -- ---- trees
-parts_proper : (parts : List Part) (m : Store) → AreParts m parts → IsProper m.tree → IsProper (fold after_part m parts).tree
+parts_proper : (parts : List Part) (m : Store) → AreLegalParts m parts → IsProper m.tree → IsProper (fold after_part m parts).tree
 parts_proper [] m are h = h
 parts_proper (part ∷ parts) m are h = parts_proper parts (after_part m part) are.1 are.0.keeps.proper
 
-pub put_proper : (m : Store) (p : Putting) → AreParts m p.parts → IsProper m.tree → IsProper (put p m).tree
+pub put_proper : (m : Store) (p : Putting) → AreLegalParts m p.parts → IsProper m.tree → IsProper (put p m).tree
 put_proper m p are h = by p.payment (parts_proper p.parts m are h)
   where
     by : (payment : Payment) → IsProper (fold after_part m p.parts).tree → IsProper (paid payment (fold after_part m p.parts)).tree
@@ -81,21 +81,21 @@ pub block_keeps : (tree : Tree) (page : PageNode) → FitsPage tree page → Kee
 block_keeps tree page fits = record { are_nodes = and_from (is_node (SetBlock page.ino page.block page.bytes)) true fits.block refl; revives_none = refl; drops = refl; proper = fits.proper }
 
 -- ---- numbers
-length_numbered : (group : List Carried) → length (numbered group) ≡ length group
+length_numbered : (group : List Carried) → length (numbered_group group) ≡ length group
 length_numbered [] = refl
 length_numbered (c ∷ group) = ap (λ n. suc n) (length_numbered group)
 
-parts_numbered : (parts : List Part) (m : Store) → AreParts m parts → (fold after_part m parts).sqnum ≡ m.sqnum + length (nodes_of parts)
+parts_numbered : (parts : List Part) (m : Store) → AreLegalParts m parts → (fold after_part m parts).sqnum ≡ m.sqnum + length (nodes_of_parts parts)
 parts_numbered [] m are = omega arith
 parts_numbered (part ∷ parts) m are =
-    let here = last_consecutive m.sqnum (numbered part.group) are.0.numbers in
+    let here = last_consecutive m.sqnum (numbered_group part.group) are.0.numbers in
     let rest = parts_numbered parts (after_part m part) are.1 in
-    let both = length-append (map (λ c. c.placed) part.group) (nodes_of parts) in
+    let both = length-append (map (λ c. c.placed) part.group) (nodes_of_parts parts) in
     let carried = length_carried part.group in
     let given = length_numbered part.group in
     omega (arith, rest, here, both, carried, given)
 
-pub put_numbered : (m : Store) (p : Putting) → AreParts m p.parts → (put p m).sqnum ≡ m.sqnum + length (nodes_of p.parts)
+pub put_numbered : (m : Store) (p : Putting) → AreLegalParts m p.parts → (put p m).sqnum ≡ m.sqnum + length (nodes_of_parts p.parts)
 put_numbered m p are = by p.payment ∙ parts_numbered p.parts m are
   where
     by : (payment : Payment) → (paid payment (fold after_part m p.parts)).sqnum ≡ (fold after_part m p.parts).sqnum

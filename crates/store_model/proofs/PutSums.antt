@@ -12,8 +12,8 @@ use Rattle.leaf_map.specs.LeafMap.{IsLeafMap}
 use Rattle.space_sums.specs.Spaces.{IsAfterGroup, IsAfterPage}
 use Rattle.store_model.specs.Events.{Part, Payment, after_part, credit, end_at, granted, nodes_len, paid, with_items}
 use Rattle.store_model.specs.Lebs.{is_role, role_count, space_of, weight_of}
-use Rattle.store_model.specs.Legal.{AreParts, IsPaid, need_of, nodes_of}
-use Rattle.store_model.specs.Store.{At, Carried, Index, Item, leaf, Leb, Store}
+use Rattle.store_model.specs.Legal.{AreLegalParts, IsPaid, need_of_grant, nodes_of_parts}
+use Rattle.store_model.specs.Store.{At, Carried, StoreIndex, Item, leaf, Leb, Store}
 use Rattle.store_model.proofs.Bytes.{ByteLaw, parts_bytes}
 use Rattle.store_model.proofs.Puts.{KeptLaw}
 
@@ -68,11 +68,11 @@ length_carried [] = refl
 length_carried (c ∷ group) = ap (λ n. suc n) (length_carried group)
 
 -- the nodes put count as weight
-pub parts_weight : (parts : List Part) (m : Store) → (fold after_part m parts).now.put ≡ m.now.put + length (nodes_of parts)
+pub parts_weight : (parts : List Part) (m : Store) → (fold after_part m parts).now.put ≡ m.now.put + length (nodes_of_parts parts)
 parts_weight [] m = omega arith
 parts_weight (part ∷ parts) m =
     let rest = parts_weight parts (after_part m part) in
-    let both = length-append (map (λ c. c.placed) part.group) (nodes_of parts) in
+    let both = length-append (map (λ c. c.placed) part.group) (nodes_of_parts parts) in
     omega (arith, rest, both, length_carried part.group)
 
 pub parts_shape : (parts : List Part) (m : Store) → (fold after_part m parts).now.shape ≡ m.now.shape
@@ -88,14 +88,14 @@ parts_credits [] m = refl
 parts_credits (part ∷ parts) m = parts_credits parts (after_part m part)
 
 -- the numbers of a put, by what pays
-pub weight_put : (parts : List Part) (m : Store) → weight_of (fold after_part m parts).geo (fold after_part m parts).now ≡ weight_of m.geo m.now + length (nodes_of parts)
+pub weight_put : (parts : List Part) (m : Store) → weight_of (fold after_part m parts).geo (fold after_part m parts).now ≡ weight_of m.geo m.now + length (nodes_of_parts parts)
 weight_put parts m =
     let same : shape_weight (fold after_part m parts).geo.fanout (fold after_part m parts).now.shape ≡ shape_weight m.geo.fanout m.now.shape
     = rw (parts_geo parts m, parts_shape parts m) refl in
     omega (arith, same, parts_weight parts m)
 
 -- a put that a credit pays for
-pub page : ByteLaw → KeptLaw → (m : Store) (parts : List Part) (index : Index) → AreParts m parts → IsLeafMap m.live → IsPaid m credit (nodes_of parts)
+pub page : ByteLaw → KeptLaw → (m : Store) (parts : List Part) (index : StoreIndex) → AreLegalParts m parts → IsLeafMap m.live → IsPaid m credit (nodes_of_parts parts)
     → IsAfterPage (space_of m) (space_of (record (paid credit (fold after_part m parts)) { index = index }))
 page law keeps m parts index are leaves pays = record {
   bytes = omega (arith, parts_bytes law keeps parts m are leaves, pays.2);
@@ -106,8 +106,8 @@ page law keeps m parts index are leaves pays = record {
 }
 
 -- a put of what was granted
-pub group : ByteLaw → KeptLaw → (m : Store) (parts : List Part) (index : Index) (grant : Grant) → AreParts m parts → IsLeafMap m.live → length (nodes_of parts) ≤ grant.nodes → nodes_len (nodes_of parts) ≤ grant.bytes
-    → IsAfterGroup (need_of grant) (space_of m) (space_of (record (paid granted (fold after_part m parts)) { index = index }))
+pub group : ByteLaw → KeptLaw → (m : Store) (parts : List Part) (index : StoreIndex) (grant : Grant) → AreLegalParts m parts → IsLeafMap m.live → length (nodes_of_parts parts) ≤ grant.nodes → nodes_len (nodes_of_parts parts) ≤ grant.bytes
+    → IsAfterGroup (need_of_grant grant) (space_of m) (space_of (record (paid granted (fold after_part m parts)) { index = index }))
 group law keeps m parts index grant are leaves nodes bytes = record {
   bytes = omega (arith, parts_bytes law keeps parts m are leaves, bytes);
   credits = parts_credits parts m;
@@ -117,18 +117,18 @@ group law keeps m parts index grant are leaves nodes bytes = record {
 }
 
 -- whatever pays, where it is a credit
-pub by_credit : ByteLaw → KeptLaw → (m : Store) (parts : List Part) (index : Index) (payment : Payment) → AreParts m parts → IsLeafMap m.live → IsPaid m payment (nodes_of parts) → payment ≡ credit
+pub by_credit : ByteLaw → KeptLaw → (m : Store) (parts : List Part) (index : StoreIndex) (payment : Payment) → AreLegalParts m parts → IsLeafMap m.live → IsPaid m payment (nodes_of_parts parts) → payment ≡ credit
     → IsAfterPage (space_of m) (space_of (record (paid payment (fold after_part m parts)) { index = index }))
 by_credit law keeps m parts index credit are leaves pays same = page law keeps m parts index are leaves pays
 by_credit law keeps m parts index granted are leaves pays same = absurd cc
 
 -- or what was granted
-pub by_grant : ByteLaw → KeptLaw → (m : Store) (parts : List Part) (index : Index) (grant : Grant) (payment : Payment) → AreParts m parts → IsLeafMap m.live → IsPaid m payment (nodes_of parts) → payment ≡ granted → m.grant ≡ Some grant
-    → IsAfterGroup (need_of grant) (space_of m) (space_of (record (paid payment (fold after_part m parts)) { index = index }))
+pub by_grant : ByteLaw → KeptLaw → (m : Store) (parts : List Part) (index : StoreIndex) (grant : Grant) (payment : Payment) → AreLegalParts m parts → IsLeafMap m.live → IsPaid m payment (nodes_of_parts parts) → payment ≡ granted → m.grant ≡ Some grant
+    → IsAfterGroup (need_of_grant grant) (space_of m) (space_of (record (paid payment (fold after_part m parts)) { index = index }))
 by_grant law keeps m parts index grant credit are leaves pays same given = absurd cc
 by_grant law keeps m parts index grant granted are leaves (other, is, nodes, bytes) same given =
     let both : Some other ≡ Some grant = sym is ∙ given in
     let one : other ≡ grant = cc in
     group law keeps m parts index grant are leaves
-    (subst (λ (g : Grant). length (nodes_of parts) ≤ g.nodes) one nodes)
-    (subst (λ (g : Grant). nodes_len (nodes_of parts) ≤ g.bytes) one bytes)
+    (subst (λ (g : Grant). length (nodes_of_parts parts) ≤ g.nodes) one nodes)
+    (subst (λ (g : Grant). nodes_len (nodes_of_parts parts) ≤ g.bytes) one bytes)

@@ -6,23 +6,23 @@ use Rattle.media_leaf.specs.LeafNode.{IsLeaf}
 use Rattle.fs_model.specs.declared.change.Change.{Change}
 use Rattle.fs_model.specs.Change.{applied, apply, key_number}
 use Rattle.fs_model.specs.Files.{Tree}
-use Rattle.leaf_map.specs.After.{Carries, kept_by}
+use Rattle.leaf_map.specs.After.{ShowsChange, kept_by}
 use Rattle.leaf_map.specs.Kept.{Kept, Placed, kept_at}
 use Rattle.leaf_map.specs.LeafMap.{IsLeafMap}
 use Rattle.leaf_map.specs.Shown.{tree_of}
 use Rattle.store_model.specs.Events.{Held, Part, Payment, credit, granted, after_change, after_part, paid}
 use Rattle.store_model.specs.Heads.{changes_of}
-use Rattle.store_model.specs.Legal.{AreParts, IsCarried}
+use Rattle.store_model.specs.Legal.{AreLegalParts, IsCarried}
 use Rattle.store_model.specs.Store.{Carried, Store}
 
 -- a change of leaves is one of the tree
 abbrev pub TreeLaw : Type 0
-TreeLaw = (change : Change) (new : Placed) (kept : List Kept) (highest : ℕ) → IsLeaf new.node → Carries change new.node → IsLeafMap kept
+TreeLaw = (change : Change) (new : Placed) (kept : List Kept) (highest : ℕ) → IsLeaf new.node → ShowsChange change new.node → IsLeafMap kept
     → tree_of (kept_by change (kept_at new) kept) (max highest (key_number change)) ≡ applied (tree_of kept highest) change
 
 -- leaves of an index stay so
 abbrev pub KeptLaw : Type 0
-KeptLaw = (change : Change) (new : Placed) (kept : List Kept) → IsLeaf new.node → Carries change new.node → IsLeafMap kept → IsLeafMap (kept_by change (kept_at new) kept)
+KeptLaw = (change : Change) (new : Placed) (kept : List Kept) → IsLeaf new.node → ShowsChange change new.node → IsLeafMap kept → IsLeafMap (kept_by change (kept_at new) kept)
 
 -- leaves of an index that show a tree
 pub record Show (live : List Kept) (tree : Tree) : Type 0 where
@@ -41,7 +41,7 @@ group_shows trees keeps [] h tree is s = s
 group_shows trees keeps (c ∷ group) h tree is s = group_shows trees keeps group (after_change h c) (applied tree c.change) is.1 (change_shows trees keeps c h.live tree is.0 s)
 
 -- parts that can be put
-pub parts_show : TreeLaw → KeptLaw → (parts : List Part) (m : Store) → AreParts m parts → Show m.live m.tree
+pub parts_show : TreeLaw → KeptLaw → (parts : List Part) (m : Store) → AreLegalParts m parts → Show m.live m.tree
     → Show (fold after_part m parts).live (fold after_part m parts).tree
 parts_show trees keeps [] m are s = s
 parts_show trees keeps (part ∷ parts) m are s =

@@ -16,14 +16,14 @@ use Rattle.fs_model.specs.declared.inode.Inode.{Inode}
 use Rattle.fs_model.specs.declared.inode.Kind.{Kind}
 use Rattle.fs_model.specs.Recovery.{Numbered, as_replayed, by_number, placed}
 use Rattle.group_nodes.specs.Nodes.{bits_of, change_of, inode_of, kind_of_bits, kind_of_type}
-use Rattle.leaf_map.specs.After.{Carries}
+use Rattle.leaf_map.specs.After.{ShowsChange}
 use Rattle.leaf_map.specs.Allowed.{AreRead}
 use Rattle.leaf_map.specs.Kept.{Placed}
 use Rattle.leaf_map.specs.Parts.{Parts}
-use Rattle.leaf_map.specs.Recovered.{in_order, placed_node}
-use Rattle.store_model.specs.Fits.{Faced, FitsFaced, nodes_in, read_nodes}
-use Rattle.store_model.specs.Heads.{groups_of, numbered}
-use Rattle.store_model.specs.Invariant.{AreCarried, all_carried, are_other, head_numbers}
+use Rattle.leaf_map.specs.Recovered.{nodes_in_order, placed_node}
+use Rattle.store_model.specs.Fits.{Faced, FitsFaced, nodes_of_groups, read_nodes}
+use Rattle.store_model.specs.Heads.{groups_of_head, numbered_group}
+use Rattle.store_model.specs.Invariant.{AreChangesCarried, all_carried, are_other, head_numbers}
 use Rattle.store_model.specs.Legal.{IsCarried}
 use Rattle.store_model.specs.Recovery.{read_changes}
 use Rattle.store_model.specs.Store.{Bud, Carried}
@@ -72,7 +72,7 @@ no_inode node false true k ino x e = absurd cc
 no_inode node false false None ino x e = absurd cc
 no_inode node false false (Some kind) ino x e = absurd cc
 
-carries_replayed : (c : Change) (node : LeafNode) → Carries c node → change_of node ≡ Some (as_replayed c)
+carries_replayed : (c : Change) (node : LeafNode) → ShowsChange c node → change_of node ≡ Some (as_replayed c)
 carries_replayed (DropInode ino) node e = e
 carries_replayed (SetInode ino x) (inode node) e = inode_reads node (kind_of_bits (bits_of node.mode)) (SetInode ino x) e
 carries_replayed (SetInode ino x) (block node) e = absurd cc
@@ -108,7 +108,7 @@ read_carried (bud ∷ buds) base other =
 abbrev nodes_of : List Carried → List Placed
 nodes_of cs = map (λ c. c.placed) cs
 
-group_nodes : (groups : List (List Carried)) → nodes_in groups ≡ nodes_of (in_groups groups)
+group_nodes : (groups : List (List Carried)) → nodes_of_groups groups ≡ nodes_of (in_groups groups)
 group_nodes [] = refl
 group_nodes (group ∷ groups) = ap (λ z. nodes_of group ++ z) (group_nodes groups) ∙ sym (map-append (λ (c : Carried). c.placed) group (in_groups groups))
 
@@ -116,14 +116,14 @@ nodes_read : (buds : List Bud) (base other : ℕ) → read_nodes buds base other
 nodes_read [] base other = refl
 nodes_read (bud ∷ buds) base other = by (λ n k. nodes_read buds n k) (bud.head == 1) (bud.head == 2)
   where
-    joined : (n : ℕ) (rest : List Placed) (cs : List Carried) → rest ≡ nodes_of cs → nodes_in (take n bud.groups) ++ rest ≡ nodes_of (in_groups (take n bud.groups) ++ cs)
+    joined : (n : ℕ) (rest : List Placed) (cs : List Carried) → rest ≡ nodes_of cs → nodes_of_groups (take n bud.groups) ++ rest ≡ nodes_of (in_groups (take n bud.groups) ++ cs)
     joined n rest cs e =
         ap (λ z. z ++ rest) (group_nodes (take n bud.groups)) ∙ ap (λ z. nodes_of (in_groups (take n bud.groups)) ++ z) e
         ∙ sym (map-append (λ (c : Carried). c.placed) (in_groups (take n bud.groups)) cs)
 
     by : ((n k : ℕ) → read_nodes buds n k ≡ nodes_of (read_carried buds n k)) → (one two : Bool)
-        → cond one (nodes_in (take base bud.groups) ++ read_nodes buds (base - length bud.groups) other)
-        (cond two (nodes_in (take other bud.groups) ++ read_nodes buds base (other - length bud.groups)) (read_nodes buds base other))
+        → cond one (nodes_of_groups (take base bud.groups) ++ read_nodes buds (base - length bud.groups) other)
+        (cond two (nodes_of_groups (take other bud.groups) ++ read_nodes buds base (other - length bud.groups)) (read_nodes buds base other))
         ≡ nodes_of (cond one (in_groups (take base bud.groups) ++ read_carried buds (base - length bud.groups) other)
         (cond two (in_groups (take other bud.groups) ++ read_carried buds base (other - length bud.groups)) (read_carried buds base other)))
     by rest true two = joined base (read_nodes buds (base - length bud.groups) other) (read_carried buds (base - length bud.groups) other) (rest (base - length bud.groups) other)
@@ -156,14 +156,14 @@ carried_read (bud ∷ buds) base other h = let p = both_parts IsCarried (in_grou
     by rest these false true = both_join IsCarried (in_groups (take other bud.groups)) (read_carried buds base (other - length bud.groups)) (first_groups IsCarried other bud.groups these) (rest base (other - length bud.groups))
     by rest these false false = rest base other
 
-all_read : (cs : List Carried) → AllByRecursion IsCarried cs → AreRead (nodes_of cs) (numbered cs)
+all_read : (cs : List Carried) → AllByRecursion IsCarried cs → AreRead (nodes_of cs) (numbered_group cs)
 all_read [] h = tt
 all_read (c ∷ cs) h = (h.0.node, refl, carries_replayed c.change c.placed.node h.0.carries, all_read cs h.1)
 
 -- ---- in order of number it is what the heads had
 -- the first groups of a head, so many
 abbrev first : ℕ → ℕ → List Bud → Numbered
-first head n buds = in_groups (take n (map numbered (groups_of head buds)))
+first head n buds = in_groups (take n (map numbered_group (groups_of_head head buds)))
 
 none_less : (n : ℕ) → n ≡ n - 0
 none_less n = omega arith
@@ -189,23 +189,23 @@ length_map : {X Y : Type 0} (f : X → Y) (xs : List X) → length (map f xs) �
 length_map f [] = refl
 length_map f (x ∷ xs) = ap suc (length_map f xs)
 
-group_numbers : (groups : List (List Carried)) → numbered (in_groups groups) ≡ in_groups (map numbered groups)
+group_numbers : (groups : List (List Carried)) → numbered_group (in_groups groups) ≡ in_groups (map numbered_group groups)
 group_numbers [] = refl
 group_numbers (group ∷ groups) =
-    map-append (λ (c : Carried). (c.placed.sqnum, c.change)) group (in_groups groups) ∙ ap (λ z. numbered group ++ z) (group_numbers groups)
+    map-append (λ (c : Carried). (c.placed.sqnum, c.change)) group (in_groups groups) ∙ ap (λ z. numbered_group group ++ z) (group_numbers groups)
 
 -- a bud of that head has the first of them
 first_here : (head n : ℕ) (bud : Bud) (buds : List Bud) → (bud.head == head) ≡ true
-    → first head n (bud ∷ buds) ≡ numbered (in_groups (take n bud.groups)) ++ first head (n - length bud.groups) buds
+    → first head n (bud ∷ buds) ≡ numbered_group (in_groups (take n bud.groups)) ++ first head (n - length bud.groups) buds
 first_here head n bud buds here =
-    let rest : List (List Carried) = groups_of head buds in
-    let opened : groups_of head (bud ∷ buds) ≡ bud.groups ++ rest = rw here refl in
-    ap (λ (gs : List (List Carried)). in_groups (take n (map numbered gs))) opened
-    ∙ ap (λ (gs : List Numbered). in_groups (take n gs)) (map-append numbered bud.groups rest)
-    ∙ ap in_groups (take_joined n (map numbered bud.groups) (map numbered rest))
-    ∙ flat_map-append (λ (g : Numbered). g) (take n (map numbered bud.groups)) (take (n - length (map numbered bud.groups)) (map numbered rest))
-    ∙ ap (λ (k : ℕ). in_groups (take n (map numbered bud.groups)) ++ in_groups (take (n - k) (map numbered rest))) (length_map numbered bud.groups)
-    ∙ ap (λ (z : Numbered). z ++ first head (n - length bud.groups) buds) (ap in_groups (take_map numbered n bud.groups) ∙ sym (group_numbers (take n bud.groups)))
+    let rest : List (List Carried) = groups_of_head head buds in
+    let opened : groups_of_head head (bud ∷ buds) ≡ bud.groups ++ rest = rw here refl in
+    ap (λ (gs : List (List Carried)). in_groups (take n (map numbered_group gs))) opened
+    ∙ ap (λ (gs : List Numbered). in_groups (take n gs)) (map-append numbered_group bud.groups rest)
+    ∙ ap in_groups (take_joined n (map numbered_group bud.groups) (map numbered_group rest))
+    ∙ flat_map-append (λ (g : Numbered). g) (take n (map numbered_group bud.groups)) (take (n - length (map numbered_group bud.groups)) (map numbered_group rest))
+    ∙ ap (λ (k : ℕ). in_groups (take n (map numbered_group bud.groups)) ++ in_groups (take (n - k) (map numbered_group rest))) (length_map numbered_group bud.groups)
+    ∙ ap (λ (z : Numbered). z ++ first head (n - length bud.groups) buds) (ap in_groups (take_map numbered_group n bud.groups) ∙ sym (group_numbers (take n bud.groups)))
 
 -- one of another head has none
 first_past : (head n : ℕ) (bud : Bud) (buds : List Bud) → (bud.head == head) ≡ false → first head n (bud ∷ buds) ≡ first head n buds
@@ -215,23 +215,23 @@ not_both : (n : ℕ) → (n == 1) ≡ true → (n == 2) ≡ false
 not_both n h = ap (λ k. k == 2) (eqb-true n 1 h)
 
 abbrev Sorts : List Bud → ℕ → ℕ → Type 0
-Sorts buds base other = (l : Numbered) → fold placed l (numbered (read_carried buds base other)) ≡ fold placed l (first 1 base buds ++ first 2 other buds)
+Sorts buds base other = (l : Numbered) → fold placed l (numbered_group (read_carried buds base other)) ≡ fold placed l (first 1 base buds ++ first 2 other buds)
 
 -- groups of a head, in front of what the others are in order of number
-numbers_join : (xs ys : List Carried) → numbered (xs ++ ys) ≡ numbered xs ++ numbered ys
+numbers_join : (xs ys : List Carried) → numbered_group (xs ++ ys) ≡ numbered_group xs ++ numbered_group ys
 numbers_join xs ys = map-append (λ (c : Carried). (c.placed.sqnum, c.change)) xs ys
 
-in_front : (xs ys : List Carried) (a b l : Numbered) → fold placed (fold placed l (numbered xs)) (numbered ys) ≡ fold placed (fold placed l (numbered xs)) (a ++ b)
-    → fold placed l (numbered (xs ++ ys)) ≡ fold placed l ((numbered xs ++ a) ++ b)
+in_front : (xs ys : List Carried) (a b l : Numbered) → fold placed (fold placed l (numbered_group xs)) (numbered_group ys) ≡ fold placed (fold placed l (numbered_group xs)) (a ++ b)
+    → fold placed l (numbered_group (xs ++ ys)) ≡ fold placed l ((numbered_group xs ++ a) ++ b)
 in_front xs ys a b l e =
-    ap (fold placed l) (numbers_join xs ys) ∙ fold-append placed l (numbered xs) (numbered ys) ∙ e
-    ∙ sym (fold-append placed l (numbered xs) (a ++ b)) ∙ ap (fold placed l) (sym (append_assoc (numbered xs) a b))
+    ap (fold placed l) (numbers_join xs ys) ∙ fold-append placed l (numbered_group xs) (numbered_group ys) ∙ e
+    ∙ sym (fold-append placed l (numbered_group xs) (a ++ b)) ∙ ap (fold placed l) (sym (append_assoc (numbered_group xs) a b))
 
-past_the_other : (xs ys : List Carried) (a b l : Numbered) → are_other a (numbered xs) ≡ true → fold placed (fold placed l (numbered xs)) (numbered ys) ≡ fold placed (fold placed l (numbered xs)) (a ++ b)
-    → fold placed l (numbered (xs ++ ys)) ≡ fold placed l (a ++ (numbered xs ++ b))
+past_the_other : (xs ys : List Carried) (a b l : Numbered) → are_other a (numbered_group xs) ≡ true → fold placed (fold placed l (numbered_group xs)) (numbered_group ys) ≡ fold placed (fold placed l (numbered_group xs)) (a ++ b)
+    → fold placed l (numbered_group (xs ++ ys)) ≡ fold placed l (a ++ (numbered_group xs ++ b))
 past_the_other xs ys a b l apart e =
-    ap (fold placed l) (numbers_join xs ys) ∙ fold-append placed l (numbered xs) (numbered ys) ∙ e ∙ fold-append placed (fold placed l (numbered xs)) a b
-    ∙ ap (λ (z : Numbered). fold placed z b) (sym (sorted_turned a (numbered xs) l apart)) ∙ sym (fold-append placed (fold placed l a) (numbered xs) b) ∙ sym (fold-append placed l a (numbered xs ++ b))
+    ap (fold placed l) (numbers_join xs ys) ∙ fold-append placed l (numbered_group xs) (numbered_group ys) ∙ e ∙ fold-append placed (fold placed l (numbered_group xs)) a b
+    ∙ ap (λ (z : Numbered). fold placed z b) (sym (sorted_turned a (numbered_group xs) l apart)) ∙ sym (fold-append placed (fold placed l a) (numbered_group xs) b) ∙ sym (fold-append placed l a (numbered_group xs ++ b))
 
 sorts : (buds : List Bud) (base other : ℕ) → are_other (first 1 base buds) (first 2 other buds) ≡ true → Sorts buds base other
 sorts [] base other apart l = by base other
@@ -250,7 +250,7 @@ sorts (bud ∷ buds) base other apart l = by (λ n k h z. sorts buds n k h z) (b
     twos = in_groups (take other bud.groups)
 
     by : ((n k : ℕ) → are_other (first 1 n buds) (first 2 k buds) ≡ true → Sorts buds n k) → (one : Bool) → (bud.head == 1) ≡ one → (two : Bool) → (bud.head == 2) ≡ two
-        → fold placed l (numbered (cond one (ones ++ read_carried buds (base - length bud.groups) other) (cond two (twos ++ read_carried buds base (other - length bud.groups)) (read_carried buds base other))))
+        → fold placed l (numbered_group (cond one (ones ++ read_carried buds (base - length bud.groups) other) (cond two (twos ++ read_carried buds base (other - length bud.groups)) (read_carried buds base other))))
         ≡ fold placed l (first 1 base (bud ∷ buds) ++ first 2 other (bud ∷ buds))
     by rest true here two second =
         let away = not_both bud.head here in
@@ -258,18 +258,18 @@ sorts (bud ∷ buds) base other apart l = by (λ n k h z. sorts buds n k h z) (b
         let same = first_past 2 other bud buds away in
         let a : Numbered = first 1 (base - length bud.groups) buds in
         let b : Numbered = first 2 other buds in
-        let h : are_other (numbered ones ++ a) b ≡ true = subst (λ (z : Numbered). are_other z b ≡ true) split (subst (λ (z : Numbered). are_other (first 1 base (bud ∷ buds)) z ≡ true) same apart) in
-        in_front ones (read_carried buds (base - length bud.groups) other) a b l (rest (base - length bud.groups) other (others_left (numbered ones) a b h).1 (fold placed l (numbered ones)))
+        let h : are_other (numbered_group ones ++ a) b ≡ true = subst (λ (z : Numbered). are_other z b ≡ true) split (subst (λ (z : Numbered). are_other (first 1 base (bud ∷ buds)) z ≡ true) same apart) in
+        in_front ones (read_carried buds (base - length bud.groups) other) a b l (rest (base - length bud.groups) other (others_left (numbered_group ones) a b h).1 (fold placed l (numbered_group ones)))
         ∙ ap (fold placed l) (ap (λ (z : Numbered). z ++ b) (sym split) ∙ ap (λ (z : Numbered). first 1 base (bud ∷ buds) ++ z) (sym same))
     by rest false first_away true here =
         let split = first_here 2 other bud buds here in
         let same = first_past 1 base bud buds first_away in
         let a : Numbered = first 1 base buds in
         let b : Numbered = first 2 (other - length bud.groups) buds in
-        let h : are_other a (numbered twos ++ b) ≡ true = subst (λ (z : Numbered). are_other a z ≡ true) split (subst (λ (z : Numbered). are_other z (first 2 other (bud ∷ buds)) ≡ true) same apart) in
-        let p = others_right a (numbered twos) b h in
-        past_the_other twos (read_carried buds base (other - length bud.groups)) a b l p.0 (rest base (other - length bud.groups) p.1 (fold placed l (numbered twos)))
-        ∙ ap (fold placed l) (ap (λ (z : Numbered). z ++ (numbered twos ++ b)) (sym same) ∙ ap (λ (z : Numbered). first 1 base (bud ∷ buds) ++ z) (sym split))
+        let h : are_other a (numbered_group twos ++ b) ≡ true = subst (λ (z : Numbered). are_other a z ≡ true) split (subst (λ (z : Numbered). are_other z (first 2 other (bud ∷ buds)) ≡ true) same apart) in
+        let p = others_right a (numbered_group twos) b h in
+        past_the_other twos (read_carried buds base (other - length bud.groups)) a b l p.0 (rest base (other - length bud.groups) p.1 (fold placed l (numbered_group twos)))
+        ∙ ap (fold placed l) (ap (λ (z : Numbered). z ++ (numbered_group twos ++ b)) (sym same) ∙ ap (λ (z : Numbered). first 1 base (bud ∷ buds) ++ z) (sym split))
     by rest false first_away false second_away =
         let one = first_past 1 base bud buds first_away in
         let two = first_past 2 other bud buds second_away in
@@ -277,29 +277,29 @@ sorts (bud ∷ buds) base other apart l = by (λ n k h z. sorts buds n k h z) (b
         rest base other h l ∙ ap (fold placed l) (ap (λ (z : Numbered). z ++ first 2 other buds) (sym one) ∙ ap (λ (z : Numbered). first 1 base (bud ∷ buds) ++ z) (sym two))
 
 -- the first groups are among all
-numbers_are : (groups : List (List Carried)) → flat_map numbered groups ≡ in_groups (map numbered groups)
+numbers_are : (groups : List (List Carried)) → flat_map numbered_group groups ≡ in_groups (map numbered_group groups)
 numbers_are [] = refl
-numbers_are (group ∷ groups) = ap (λ z. numbered group ++ z) (numbers_are groups)
+numbers_are (group ∷ groups) = ap (λ z. numbered_group group ++ z) (numbers_are groups)
 
-head_split : (head n : ℕ) (buds : List Bud) → head_numbers buds head ≡ first head n buds ++ in_groups (drop n (map numbered (groups_of head buds)))
+head_split : (head n : ℕ) (buds : List Bud) → head_numbers buds head ≡ first head n buds ++ in_groups (drop n (map numbered_group (groups_of_head head buds)))
 head_split head n buds =
-    let groups : List Numbered = map numbered (groups_of head buds) in
-    numbers_are (groups_of head buds) ∙ ap in_groups (sym (take-append-drop n groups)) ∙ flat_map-append (λ (g : Numbered). g) (take n groups) (drop n groups)
+    let groups : List Numbered = map numbered_group (groups_of_head head buds) in
+    numbers_are (groups_of_head head buds) ∙ ap in_groups (sym (take-append-drop n groups)) ∙ flat_map-append (λ (g : Numbered). g) (take n groups) (drop n groups)
 
 firsts_apart : (buds : List Bud) (base other : ℕ) → are_other (head_numbers buds 1) (head_numbers buds 2) ≡ true → are_other (first 1 base buds) (first 2 other buds) ≡ true
 firsts_apart buds base other h =
     let left = subst (λ (z : Numbered). are_other z (head_numbers buds 2) ≡ true) (head_split 1 base buds) h in
-    let one = (others_left (first 1 base buds) (in_groups (drop base (map numbered (groups_of 1 buds)))) (head_numbers buds 2) left).0 in
+    let one = (others_left (first 1 base buds) (in_groups (drop base (map numbered_group (groups_of_head 1 buds)))) (head_numbers buds 2) left).0 in
     let right = subst (λ (z : Numbered). are_other (first 1 base buds) z ≡ true) (head_split 2 other buds) one in
-    (others_right (first 1 base buds) (first 2 other buds) (in_groups (drop other (map numbered (groups_of 2 buds)))) right).0
+    (others_right (first 1 base buds) (first 2 other buds) (in_groups (drop other (map numbered_group (groups_of_head 2 buds)))) right).0
 
-pub nodes_carry : (f : Faced) (parts : Parts) → AreCarried f.view → are_other (head_numbers f.view.buds 1) (head_numbers f.view.buds 2) ≡ true → (fits : FitsFaced f parts)
-    → AreRead (in_order parts.nodes) (by_number (read_changes f parts fits))
+pub nodes_carry : (f : Faced) (parts : Parts) → AreChangesCarried f.view → are_other (head_numbers f.view.buds 1) (head_numbers f.view.buds 2) ≡ true → (fits : FitsFaced f parts)
+    → AreRead (nodes_in_order parts.nodes) (by_number (read_changes f parts fits))
 nodes_carry f parts carried apart fits =
     let buds : List Bud = f.view.buds in
     let cs : List Carried = read_carried buds fits.base fits.data_groups in
-    let read = read_fold (nodes_of cs) (numbered cs) [] [] (all_read cs (carried_read buds fits.base fits.data_groups carried)) tt in
+    let read = read_fold (nodes_of cs) (numbered_group cs) [] [] (all_read cs (carried_read buds fits.base fits.data_groups carried)) tt in
     let order = sorts buds fits.base fits.data_groups (firsts_apart buds fits.base fits.data_groups apart) [] in
     let end = ap (λ (z : Numbered). by_number (first 1 fits.base buds ++ z)) (sym (append-nil (first 2 fits.data_groups buds))) in
-    subst (λ (nodes : List Placed). AreRead (in_order nodes) (by_number (read_changes f parts fits))) (sym (fits.nodes ∙ nodes_read buds fits.base fits.data_groups))
-    (subst (AreRead (in_order (nodes_of cs))) (order ∙ end) read)
+    subst (λ (nodes : List Placed). AreRead (nodes_in_order nodes) (by_number (read_changes f parts fits))) (sym (fits.nodes ∙ nodes_read buds fits.base fits.data_groups))
+    (subst (AreRead (nodes_in_order (nodes_of cs))) (order ∙ end) read)

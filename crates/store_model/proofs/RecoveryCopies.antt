@@ -13,7 +13,7 @@ use Rattle.index_tree.specs.declared.leaf.Leaf.{Leaf}
 use Rattle.fs_model.specs.declared.change.Change.{Change}
 use Rattle.fs_model.specs.declared.change.Change.TheVariants.{SetInode, SetEntry, SetBlock}
 use Rattle.fs_model.specs.Path.{is_same_name}
-use Rattle.leaf_map.specs.Allowed.{IsCopied, IsNodeOf}
+use Rattle.leaf_map.specs.Allowed.{IsNodeCopied, IsNodeOfLeaves}
 use Rattle.leaf_map.specs.Kept.{Kept, Placed, shown, shown_by}
 use Rattle.leaf_map.specs.LeafMap.{HasKeyOf, IsKeyed, are_apart, shows_same}
 use Rattle.leaf_map.specs.Parts.{is_shown}
@@ -60,19 +60,19 @@ same_turned l m (Some (SetEntry a)) t h g e = absurd (false≢true e)
 same_turned l m s t h g e = absurd h
 
 -- what all leaves pass their nodes pass
-pub at_node : (p : Option Change → Bool) (kept : List Kept) (n : LeafNode) → list_all (λ y. p (shown_by y)) kept ≡ true → IsNodeOf kept n → p (shown n) ≡ true
+pub at_node : (p : Option Change → Bool) (kept : List Kept) (n : LeafNode) → list_all (λ y. p (shown_by y)) kept ≡ true → IsNodeOfLeaves kept n → p (shown n) ≡ true
 at_node p [] n h i = absurd i
 at_node p (x ∷ kept) n h (inl e) = subst (λ z. p (shown z) ≡ true) (sym e) (and_parts (p (shown_by x)) (list_all (λ y. p (shown_by y)) kept) h).0
 at_node p (x ∷ kept) n h (inr i) = at_node p kept n (and_parts (p (shown_by x)) (list_all (λ y. p (shown_by y)) kept) h).1 i
 
 -- a leaf's node has a key
-pub node_keyed : (kept : List Kept) (n : LeafNode) → AllByRecursion IsKeyed kept → IsNodeOf kept n → (l : Leaf) × HasKeyOf l (shown n)
+pub node_keyed : (kept : List Kept) (n : LeafNode) → AllByRecursion IsKeyed kept → IsNodeOfLeaves kept n → (l : Leaf) × HasKeyOf l (shown n)
 node_keyed [] n k i = absurd i
 node_keyed (x ∷ kept) n k (inl e) = (x.leaf, subst (λ z. HasKeyOf x.leaf (shown z)) (sym e) k.0)
 node_keyed (x ∷ kept) n k (inr i) = node_keyed kept n k.1 i
 
 -- of leaves of which none shows what another does one node alone shows it
-pub one_node : (kept : List Kept) (m n : LeafNode) → AllByRecursion IsKeyed kept → are_apart kept ≡ true → IsNodeOf kept m → IsNodeOf kept n → shows_same (shown m) (shown n) ≡ true → m ≡ n
+pub one_node : (kept : List Kept) (m n : LeafNode) → AllByRecursion IsKeyed kept → are_apart kept ≡ true → IsNodeOfLeaves kept m → IsNodeOfLeaves kept n → shows_same (shown m) (shown n) ≡ true → m ≡ n
 one_node [] m n k a i j e = absurd i
 one_node (x ∷ kept) m n k a (inl i) (inl j) e = i ∙ sym j
 one_node (x ∷ kept) m n k a (inl i) (inr j) e =
@@ -96,13 +96,13 @@ all_taken P (suc n) [] h = tt
 all_taken P (suc n) (d ∷ ds) h = (h.0, all_taken P n ds h.1)
 
 -- a leaf that has one among the first copies has it among more of them
-pub copied : (kept : List Kept) (x : Kept) (n m : ℕ) (ds : List Placed) → n ≤ m → AllByRecursion IsKeyed kept → are_apart kept ≡ true → IsNodeOf kept x.node → AllByRecursion (λ d. IsLeaf d.node × IsNodeOf kept d.node) ds
-    → list_any (λ c. (c.sqnum == x.sqnum) && shows_same (shown_by x) (shown c.node)) (take n ds) ≡ true → IsCopied (take m ds) x.node
+pub copied : (kept : List Kept) (x : Kept) (n m : ℕ) (ds : List Placed) → n ≤ m → AllByRecursion IsKeyed kept → are_apart kept ≡ true → IsNodeOfLeaves kept x.node → AllByRecursion (λ d. IsLeaf d.node × IsNodeOfLeaves kept d.node) ds
+    → list_any (λ c. (c.sqnum == x.sqnum) && shows_same (shown_by x) (shown c.node)) (take n ds) ≡ true → IsNodeCopied (take m ds) x.node
 copied kept x zero m ds le k a i all h = absurd (false≢true h)
 copied kept x (suc n) m [] le k a i all h = absurd (false≢true h)
 copied kept x (suc n) zero (d ∷ ds) le k a i all h = absurd (omega (arith, le))
 copied kept x (suc n) (suc m) (d ∷ ds) le k a i all h = by (either_of ((d.sqnum == x.sqnum) && shows_same (shown_by x) (shown d.node)) (list_any (λ c. (c.sqnum == x.sqnum) && shows_same (shown_by x) (shown c.node)) (take n ds)) h) (copied kept x n m ds (omega (arith, le)) k a i all.1)
   where
-    by : (((d.sqnum == x.sqnum) && shows_same (shown_by x) (shown d.node)) ≡ true) ⊎ (list_any (λ c. (c.sqnum == x.sqnum) && shows_same (shown_by x) (shown c.node)) (take n ds) ≡ true) → (list_any (λ c. (c.sqnum == x.sqnum) && shows_same (shown_by x) (shown c.node)) (take n ds) ≡ true → IsCopied (take m ds) x.node) → IsCopied (d ∷ take m ds) x.node
+    by : (((d.sqnum == x.sqnum) && shows_same (shown_by x) (shown d.node)) ≡ true) ⊎ (list_any (λ c. (c.sqnum == x.sqnum) && shows_same (shown_by x) (shown c.node)) (take n ds) ≡ true) → (list_any (λ c. (c.sqnum == x.sqnum) && shows_same (shown_by x) (shown c.node)) (take n ds) ≡ true → IsNodeCopied (take m ds) x.node) → IsNodeCopied (d ∷ take m ds) x.node
     by (inl e) more = inl (one_node kept x.node d.node k a i all.0.1 (and_parts (d.sqnum == x.sqnum) (shows_same (shown_by x) (shown d.node)) e).1)
     by (inr e) more = inr (more e)

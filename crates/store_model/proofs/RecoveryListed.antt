@@ -23,9 +23,9 @@ use Rattle.leaf_map.specs.Kept.{Kept, shown_by}
 use Rattle.leaf_map.specs.LastChange.{Made, last_made, later, makes_inode, there}
 use Rattle.leaf_map.specs.Parts.{Parts}
 use Rattle.leaf_map.specs.Recovered.{committed_highest}
-use Rattle.leaf_map.specs.Shown.{inodes_of, tree_of, with_inode}
-use Rattle.store_model.specs.Fits.{Faced, FitsFaced, IsOneOf}
-use Rattle.store_model.specs.Invariant.{HasCommitted, HaveOrphans, is_listed}
+use Rattle.leaf_map.specs.Shown.{inodes_of, tree_of, with_shown_inode}
+use Rattle.store_model.specs.Fits.{Faced, FitsFaced, IsOneOfLists}
+use Rattle.store_model.specs.Invariant.{HasCommittedView, HaveOrphans, is_listed}
 use Rattle.store_model.specs.Lebs.{is_among}
 use Rattle.store_model.specs.Recovery.{read_changes}
 use Rattle.store_model.proofs.RecoveryOrder.{all_in_turn}
@@ -93,7 +93,7 @@ at_number q ino h = by (nat_cmp q ino) refl h
     by Equal e t = exact_unsigned q ino e
     by Greater e t = absurd (false≢true t)
 
-shown_listed : (list : List ℕ) (q : ℕ) (s : Option Change) (rest : Inodes) → has_none (lookup (is_at (nat_cmp q)) (with_inode s rest)) ≡ true → is_listed (is_among list) s ≡ true
+shown_listed : (list : List ℕ) (q : ℕ) (s : Option Change) (rest : Inodes) → has_none (lookup (is_at (nat_cmp q)) (with_shown_inode s rest)) ≡ true → is_listed (is_among list) s ≡ true
     → (has_none (lookup (is_at (nat_cmp q)) rest) ≡ true → is_among list q ≡ true) → is_among list q ≡ true
 shown_listed list q (Some (SetInode ino inode)) rest h on more = by (is_at (nat_cmp q) ino) refl h
   where
@@ -118,7 +118,7 @@ leaf_listed list q (x ∷ kept) h on =
     shown_listed list q (shown_by x) (inodes_of kept) h p.0 (λ g. leaf_listed list q kept g p.1)
 
 -- the list that was read has them
-has_orphans : (f : Faced) (lists : List (List ℕ)) (list : List ℕ) → HaveOrphans f lists → IsOneOf lists list → list_all (λ x. is_listed (is_among list) (shown_by x)) f.view.kept ≡ true
+has_orphans : (f : Faced) (lists : List (List ℕ)) (list : List ℕ) → HaveOrphans f lists → IsOneOfLists lists list → list_all (λ x. is_listed (is_among list) (shown_by x)) f.view.kept ≡ true
 has_orphans f [] list h one = absurd one
 has_orphans f (first ∷ lists) list h (inl same) = subst (λ (l : List ℕ). list_all (λ x. is_listed (is_among l) (shown_by x)) f.view.kept ≡ true) (sym same) h.0
 has_orphans f (first ∷ lists) list h (inr one) = has_orphans f lists list h.1 one
@@ -126,7 +126,7 @@ has_orphans f (first ∷ lists) list h (inr one) = has_orphans f lists list h.1 
 abbrev pub InodeLaw : Type 0
 InodeLaw = (q : ℕ) (changes : List Change) (tree : Tree) → IsInOrder tree → inode_at (apply tree changes) q ≡ there (last_made (makes_inode q) tree changes) (inode_at tree q)
 
-pub all_listed : SortedLaw → InodeLaw → (f : Faced) (parts : Parts) → HasCommitted f.view → HaveOrphans f f.lists → (fits : FitsFaced f parts) → (q : ℕ)
+pub all_listed : SortedLaw → InodeLaw → (f : Faced) (parts : Parts) → HasCommittedView f.view → HaveOrphans f f.lists → (fits : FitsFaced f parts) → (q : ℕ)
     → is_nameless (apply (tree_of f.view.kept (committed_highest parts)) (in_turn (read_changes f parts fits))) q ≡ true → list_any (λ ino. q == ino) parts.listed ≡ true
 all_listed sorted inode f parts has orphans fits q h =
     let tree : Tree = tree_of f.view.kept (committed_highest parts) in

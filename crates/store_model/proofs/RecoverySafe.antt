@@ -13,15 +13,15 @@ use Rattle.fs_model.specs.Orphan.{is_nameless}
 use Rattle.fs_model.specs.Proper.{IsInOrder}
 use Rattle.fs_model.specs.Recovery.{KeepsSynced, taken}
 use Rattle.leaf_map.specs.After.{is_gone}
-use Rattle.leaf_map.specs.Allowed.{AreReadLeaves, FitsLeaves, HasInode, IsCopied, IsNodeOf, IsOfForgotten, IsOwnNode, IsSafe, IsTouchedIn, in_turn, sets_inode}
+use Rattle.leaf_map.specs.Allowed.{AreReadLeaves, FitsLeaves, HasInode, IsNodeCopied, IsNodeOfLeaves, IsOfForgotten, IsOwnNode, IsSafe, IsTouchedIn, in_turn, sets_inode}
 use Rattle.leaf_map.specs.Kept.{Kept, Placed, kept_at, shown, shown_by}
 use Rattle.leaf_map.specs.LeafMap.{IsKeyed, IsLeafMap}
 use Rattle.leaf_map.specs.Parts.{Committed, Named, Parts, in_bud, is_shown, own_node, shows_nothing}
 use Rattle.leaf_map.specs.Recovered.{committed_highest}
 use Rattle.leaf_map.specs.Shown.{tree_of}
-use Rattle.store_model.specs.Fits.{AreCommitted, AreLeft, AreOfListed, AreOwn, Faced, FitsFaced, HasOwn, HasOwnOrNone, IsLeft, IsOfNameless, IsOneOf, is_of_listed}
+use Rattle.store_model.specs.Fits.{AreLeavesCommitted, AreLeavesLeft, AreOfListed, AreOwn, Faced, FitsFaced, HasOwn, HasOwnOrNone, IsLeafLeft, IsOfNameless, IsOneOfLists, is_of_listed}
 use Rattle.store_model.specs.Heads.{copies_of, heads_of}
-use Rattle.store_model.specs.Invariant.{HasCommitted, IsCopyOf}
+use Rattle.store_model.specs.Invariant.{HasCommittedView, IsCopyOf}
 use Rattle.store_model.specs.Lebs.{is_among}
 use Rattle.store_model.specs.Recovery.{read_changes}
 use Rattle.store_model.proofs.RecoveryCopies.{all_taken, copied, either_of, keyed_shown, number_turned}
@@ -45,7 +45,7 @@ own_shows named c own e = by c.found e
     by None f = absurd cc
     by (Some found) f = test found (in_bud named c.leaf) (is_shown (shown found.node)) (same_leaf c.leaf (kept_at found).leaf) f
 
-read_leaves : (parts : Parts) (committed : List Committed) (kept : List Kept) → AreCommitted parts.named committed kept → AreReadLeaves parts kept committed
+read_leaves : (parts : Parts) (committed : List Committed) (kept : List Kept) → AreLeavesCommitted parts.named committed kept → AreReadLeaves parts kept committed
 unfolding node_or
 read_leaves parts [] [] h = tt
 read_leaves parts [] (x ∷ kept) h = absurd h
@@ -61,26 +61,26 @@ read_leaves parts (c ∷ committed) (x ∷ kept) h = (record { leaf = h.0; own =
     known (inr none) = none.1
 
 -- a copy is the node of a leaf
-node_among : (kept : List Kept) (d : Placed) → IsCopyOf kept d → IsNodeOf kept d.node
+node_among : (kept : List Kept) (d : Placed) → IsCopyOf kept d → IsNodeOfLeaves kept d.node
 node_among [] d i = absurd i
 node_among (x ∷ kept) d (inl same) = inl same.0
 node_among (x ∷ kept) d (inr i) = inr (node_among kept d i)
 
-copied_nodes : (kept : List Kept) (ds : List Placed) → AllByRecursion (λ d. IsLeaf d.node × IsCopyOf kept d) ds → AllByRecursion (λ d. IsLeaf d.node × IsNodeOf kept d.node) ds
+copied_nodes : (kept : List Kept) (ds : List Placed) → AllByRecursion (λ d. IsLeaf d.node × IsCopyOf kept d) ds → AllByRecursion (λ d. IsLeaf d.node × IsNodeOfLeaves kept d.node) ds
 copied_nodes kept [] h = tt
 copied_nodes kept (d ∷ ds) h = ((h.0.0, node_among kept d h.0.1), copied_nodes kept ds h.1)
 
-pub fits_leaves : (f : Faced) (parts : Parts) → HasCommitted f.view → FitsFaced f parts → FitsLeaves parts f.view.kept
+pub fits_leaves : (f : Faced) (parts : Parts) → HasCommittedView f.view → FitsFaced f parts → FitsLeaves parts f.view.kept
 fits_leaves f parts has fits = record {
   leaves = has.leaves;
   read = read_leaves parts parts.committed f.view.kept fits.committed;
-  copies = subst (AllByRecursion (λ d. IsLeaf d.node × IsNodeOf f.view.kept d.node)) (sym fits.copies_are)
-      (all_taken (λ d. IsLeaf d.node × IsNodeOf f.view.kept d.node) fits.copies (copies_of f.view.buds) (copied_nodes f.view.kept (copies_of f.view.buds) has.copies));
+  copies = subst (AllByRecursion (λ d. IsLeaf d.node × IsNodeOfLeaves f.view.kept d.node)) (sym fits.copies_are)
+      (all_taken (λ d. IsLeaf d.node × IsNodeOfLeaves f.view.kept d.node) fits.copies (copies_of f.view.buds) (copied_nodes f.view.kept (copies_of f.view.buds) has.copies));
 }
 
 -- ---- leaves that are left
 -- a number that is on each list is on the one that was read
-on_list : (lists : List (List ℕ)) (list : List ℕ) (x : Kept) → AreOfListed lists x → IsOneOf lists list → is_of_listed list (shown_by x) ≡ true
+on_list : (lists : List (List ℕ)) (list : List ℕ) (x : Kept) → AreOfListed lists x → IsOneOfLists lists list → is_of_listed list (shown_by x) ≡ true
 on_list [] list x h one = absurd one
 on_list (first ∷ lists) list x h (inl same) = subst (λ l. is_of_listed l (shown_by x) ≡ true) (sym same) h.0
 on_list (first ∷ lists) list x h (inr one) = on_list lists list x h.1 one
@@ -127,10 +127,10 @@ shown_tree f parts = tree_of f.view.kept (committed_highest parts)
 abbrev Safe : (f : Faced) → (parts : Parts) → FitsFaced f parts → Kept → Type 0
 Safe f parts fits x = IsSafe parts (shown_tree f parts) (in_turn (read_changes f parts fits)) x
 
-left_safe : SortedLaw → TouchesLaw → (f : Faced) (parts : Parts) (fits : FitsFaced f parts) → HasCommitted f.view → (x : Kept) → IsKeyed x → HasInode f.view.tree (shown_by x) → IsNodeOf f.view.kept x.node
-    → IsLeft f x → Safe f parts fits x
+left_safe : SortedLaw → TouchesLaw → (f : Faced) (parts : Parts) (fits : FitsFaced f parts) → HasCommittedView f.view → (x : Kept) → IsKeyed x → HasInode f.view.tree (shown_by x) → IsNodeOfLeaves f.view.kept x.node
+    → IsLeafLeft f x → Safe f parts fits x
 left_safe sorted touches f parts fits has x keyed inode of (inl copy) =
-    inl (inr (subst (λ (ds : List Placed). IsCopied ds x.node) (sym fits.copies_are)
+    inl (inr (subst (λ (ds : List Placed). IsNodeCopied ds x.node) (sym fits.copies_are)
     (copied f.view.kept x (get_or f.synced 0 0) fits.copies (copies_of f.view.buds) fits.synced_copies has.leaves.keyed has.leaves.apart of (copied_nodes f.view.kept (copies_of f.view.buds) has.copies) copy)))
 left_safe sorted touches f parts fits has x keyed inode of (inr (inl touched)) =
     let any = any_in_turn (λ c. is_gone c x) (read_changes f parts fits) (touched (0 ∷ fits.base ∷ fits.data_groups ∷ []) fits.keeps) in
@@ -141,28 +141,28 @@ left_safe sorted touches f parts fits has x keyed inode of (inr (inr gone)) =
 
 -- leaves behind others, whose nodes and own nodes are among all
 record Behind (f : Faced) (parts : Parts) (committed : List Committed) (kept : List Kept) : Type 0 where
-  pub read : AreCommitted parts.named committed kept
+  pub read : AreLeavesCommitted parts.named committed kept
   pub keyed : AllByRecursion IsKeyed kept
   pub inodes : AllByRecursion (λ x. HasInode f.view.tree (shown_by x)) kept
-  pub lebs : (lnum : ℕ) → AreOwn parts.named lnum committed kept ⊎ AreLeft f lnum kept
+  pub lebs : (lnum : ℕ) → AreOwn parts.named lnum committed kept ⊎ AreLeavesLeft f lnum kept
   pub own : (n : LeafNode) → IsOwnNode parts.named committed n → IsOwnNode parts.named parts.committed n
-  pub node : (n : LeafNode) → IsNodeOf kept n → IsNodeOf f.view.kept n
+  pub node : (n : LeafNode) → IsNodeOfLeaves kept n → IsNodeOfLeaves f.view.kept n
 
-all_safe : SortedLaw → TouchesLaw → (f : Faced) (parts : Parts) (fits : FitsFaced f parts) → HasCommitted f.view → (committed : List Committed) (kept : List Kept) → Behind f parts committed kept
+all_safe : SortedLaw → TouchesLaw → (f : Faced) (parts : Parts) (fits : FitsFaced f parts) → HasCommittedView f.view → (committed : List Committed) (kept : List Kept) → Behind f parts committed kept
     → AllByRecursion (Safe f parts fits) kept
 all_safe sorted touches f parts fits has [] [] b = tt
 all_safe sorted touches f parts fits has (c ∷ committed) [] b = tt
 all_safe sorted touches f parts fits has [] (x ∷ kept) b = absurd b.read
 all_safe sorted touches f parts fits has (c ∷ committed) (x ∷ kept) b = (first (b.lebs x.leaf.lnum), all_safe sorted touches f parts fits has committed kept rest)
   where
-    first : AreOwn parts.named x.leaf.lnum (c ∷ committed) (x ∷ kept) ⊎ AreLeft f x.leaf.lnum (x ∷ kept) → Safe f parts fits x
+    first : AreOwn parts.named x.leaf.lnum (c ∷ committed) (x ∷ kept) ⊎ AreLeavesLeft f x.leaf.lnum (x ∷ kept) → Safe f parts fits x
     first (inl own) = by (own.0 refl)
       where
         by : HasOwn parts.named c x → Safe f parts fits x
         by (found, is, node, number) = inl (inl (b.own x.node (inl (ap (option_map (λ (p : Placed). p.node)) is ∙ ap Some node))))
     first (inr left) = left_safe sorted touches f parts fits has x b.keyed.0 b.inodes.0 (b.node x.node (inl refl)) (left.0 refl)
 
-    behind : (lnum : ℕ) → AreOwn parts.named lnum (c ∷ committed) (x ∷ kept) ⊎ AreLeft f lnum (x ∷ kept) → AreOwn parts.named lnum committed kept ⊎ AreLeft f lnum kept
+    behind : (lnum : ℕ) → AreOwn parts.named lnum (c ∷ committed) (x ∷ kept) ⊎ AreLeavesLeft f lnum (x ∷ kept) → AreOwn parts.named lnum committed kept ⊎ AreLeavesLeft f lnum kept
     behind lnum (inl own) = inl own.1
     behind lnum (inr left) = inr left.1
 
@@ -176,7 +176,7 @@ all_safe sorted touches f parts fits has (c ∷ committed) (x ∷ kept) b = (fir
       node = λ n i. b.node n (inr i);
     }
 
-pub none_lost : SortedLaw → TouchesLaw → (f : Faced) (parts : Parts) → HasCommitted f.view → (fits : FitsFaced f parts) → AllByRecursion (Safe f parts fits) f.view.kept
+pub none_lost : SortedLaw → TouchesLaw → (f : Faced) (parts : Parts) → HasCommittedView f.view → (fits : FitsFaced f parts) → AllByRecursion (Safe f parts fits) f.view.kept
 none_lost sorted touches f parts has fits = all_safe sorted touches f parts fits has parts.committed f.view.kept (record {
   read = fits.committed;
   keyed = has.leaves.keyed;

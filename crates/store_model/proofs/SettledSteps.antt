@@ -13,9 +13,9 @@ use Rattle.fs_model.specs.Settled.{IsSettled}
 use Rattle.space_sums.specs.Spaces.{IsSettledTwice, Running, with_empty}
 use Rattle.store_model.specs.Events.{begin, Copying, drop_inode, end_at, free_victim, in_next, move, node_items, sync, view_branchings, write_index}
 use Rattle.store_model.specs.Heads.{with_copy}
-use Rattle.store_model.specs.Invariant.{AreApart}
-use Rattle.store_model.specs.Lebs.{has_node, is_role, IsSettledWith, IsStoreSettled, lent, role_count, running_of, space_of, weight_of}
-use Rattle.store_model.specs.Store.{Index, Leb, Moving, Next, Place, Store}
+use Rattle.store_model.specs.Invariant.{AreRolesApart}
+use Rattle.store_model.specs.Lebs.{has_node, is_role, IsSettledWith, IsStoreSettled, lent, role_count, running_commit_of, space_of, weight_of}
+use Rattle.store_model.specs.Store.{StoreIndex, Leb, Moving, Next, IndexNodePlace, Store}
 use Rattle.store_model.proofs.GrantCounts.{free_index}
 use Rattle.store_model.proofs.LebCollections.{free_number, free_row, free_rows}
 use Rattle.store_model.proofs.LebCounts.{count_rows, drop_index, freed_more, row_count, sync_empty, sync_index, sync_rows}
@@ -55,14 +55,14 @@ twice_more geo next old new weight empty index s = record {
 }
 
 same_running : (m k : Store) (next after : Next) → k.geo ≡ m.geo → numbers_of (rows k.lebs) ≡ numbers_of (rows m.lebs) → after.taken ≡ next.taken → after.view.places ≡ next.view.places → weight_of m.geo after.view ≡ weight_of m.geo next.view
-    → running_of k after ≡ running_of m next
+    → running_commit_of k after ≡ running_commit_of m next
 same_running m k next after geo numbers taken places weight =
     let make : ℕ → ℕ → ℕ → Running = λ t l w. record { taken = t; lebs = l; weight = w } in
-    let counted : (running_of k after).lebs ≡ (running_of m next).lebs =
-    count_numbers (has_node after.view.places) k.lebs ∙ ap (λ (ps : List Place). num_count (has_node ps) (numbers_of (rows k.lebs))) places ∙ ap (num_count (has_node next.view.places)) numbers
+    let counted : (running_commit_of k after).lebs ≡ (running_commit_of m next).lebs =
+    count_numbers (has_node after.view.places) k.lebs ∙ ap (λ (ps : List IndexNodePlace). num_count (has_node ps) (numbers_of (rows k.lebs))) places ∙ ap (num_count (has_node next.view.places)) numbers
     ∙ sym (count_numbers (has_node next.view.places) m.lebs) in
-    ap (λ (t : List ℕ). make (length t) (running_of k after).lebs (weight_of k.geo after.view)) taken ∙ ap (λ (l : ℕ). make (length next.taken) l (weight_of k.geo after.view)) counted
-    ∙ ap (λ (g : RawGeometry). make (length next.taken) (running_of m next).lebs (weight_of g after.view)) geo ∙ ap (make (length next.taken) (running_of m next).lebs) weight
+    ap (λ (t : List ℕ). make (length t) (running_commit_of k after).lebs (weight_of k.geo after.view)) taken ∙ ap (λ (l : ℕ). make (length next.taken) l (weight_of k.geo after.view)) counted
+    ∙ ap (λ (g : RawGeometry). make (length next.taken) (running_commit_of m next).lebs (weight_of g after.view)) geo ∙ ap (make (length next.taken) (running_commit_of m next).lebs) weight
 
 settled_idle : (m k : Store) → IsSteady m k → IsSettled m.geo (with_empty (lent m.moving) (space_of m)) → IsSettled k.geo (with_empty (lent k.moving) (space_of k))
 settled_idle m k y s =
@@ -72,11 +72,11 @@ settled_idle m k y s =
     (settled_more m.geo (with_empty (lent m.moving) (space_of m)) (with_empty (lent k.moving) (space_of k)) y.weight empty (omega (arith, empty, index)) s)
 
 settled_running : (m k : Store) (next after : Next) → IsSteady m k → after.taken ≡ next.taken → after.view.places ≡ next.view.places → weight_of m.geo after.view ≡ weight_of m.geo next.view
-    → IsSettledTwice m.geo (running_of m next) (with_empty (lent m.moving) (space_of m)) → IsSettledTwice k.geo (running_of k after) (with_empty (lent k.moving) (space_of k))
+    → IsSettledTwice m.geo (running_commit_of m next) (with_empty (lent m.moving) (space_of m)) → IsSettledTwice k.geo (running_commit_of k after) (with_empty (lent k.moving) (space_of k))
 settled_running m k next after y taken places weight s =
     let now : Space = with_empty (lent k.moving) (space_of k) in
     subst (λ (r : Running). IsSettledTwice k.geo r now) (sym (same_running m k next after y.geo y.numbers taken places weight))
-    (subst (λ (g : RawGeometry). IsSettledTwice g (running_of m next) now) (sym y.geo) (twice_more m.geo (running_of m next) (with_empty (lent m.moving) (space_of m)) now y.weight y.empty y.index s))
+    (subst (λ (g : RawGeometry). IsSettledTwice g (running_commit_of m next) now) (sym y.geo) (twice_more m.geo (running_commit_of m next) (with_empty (lent m.moving) (space_of m)) now y.weight y.empty y.index s))
 
 -- where the running commit is as it was
 settled_same : (m k : Store) (next : Option Next) → IsSteady m k → IsSettledWith m (with_empty (lent m.moving) (space_of m)) next → IsSettledWith k (with_empty (lent k.moving) (space_of k)) next
@@ -95,7 +95,7 @@ sync_settled m s =
       numbers = ap numbers_of (sync_rows m) ∙ numbers_kept (freed_row (synced_store m)) (freed_number (synced_store m)) (rows m.lebs);
     }) s
 
-pub drop_settled : (m : Store) (ino : ℕ) (index : Index) → IsStoreSettled m → IsStoreSettled (drop_inode ino index m)
+pub drop_settled : (m : Store) (ino : ℕ) (index : StoreIndex) → IsStoreSettled m → IsStoreSettled (drop_inode ino index m)
 drop_settled m ino index s =
     let k : Store = dropped_store ino index m in
     let now = count_rows kind.Free (drop_inode ino index m).lebs ∙ ap (row_count kind.Free) (freed_rows k m.lebs) in
@@ -180,7 +180,7 @@ lent_one moving = by moving.opened
     by true = omega arith
     by false = omega arith
 
-freed_settled : (m : Store) (moving : Moving) → m.moving ≡ Some moving → AreApart m → IsStoreSettled m → IsStoreSettled (free_victim m (Some moving))
+freed_settled : (m : Store) (moving : Moving) → m.moving ≡ Some moving → AreRolesApart m → IsStoreSettled m → IsStoreSettled (free_victim m (Some moving))
 freed_settled m moving e a s =
     let k : Store = free_victim m (Some moving) in
     let leaf : has_row kind.Leaf (rows m.lebs) moving.victim ≡ true = subst (λ (o : Option Moving). victim_row (rows m.lebs) o ≡ true) e (to_rows m a).victim in
@@ -197,7 +197,7 @@ freed_settled m moving e a s =
       numbers = ap numbers_of (free_rows moving.victim m.lebs) ∙ numbers_kept (free_row moving.victim) (free_number moving.victim) (rows m.lebs);
     }) s
 
-pub free_settled : (m : Store) (moving : Option Moving) → m.moving ≡ moving → AreApart m → IsStoreSettled m → IsStoreSettled (free_victim m moving)
+pub free_settled : (m : Store) (moving : Option Moving) → m.moving ≡ moving → AreRolesApart m → IsStoreSettled m → IsStoreSettled (free_victim m moving)
 free_settled m None e a s = s
 free_settled m (Some moving) e a s = freed_settled m moving e a s
 

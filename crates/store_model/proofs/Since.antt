@@ -4,10 +4,10 @@ use Rattle.std.specs.Prelude.{◌==◌, fold, get_or}
 use Rattle.std.specs.Option.{option_map}
 use Rattle.std.proofs.lemmas.Bool.{eqb-true}
 use Rattle.store_model.specs.Events.{after_part, credit, drop_inode, end_at, granted, in_next, moved_on, new_bud, nodes_len, open_leb, paid, Part, Payment, put, Putting, sync}
-use Rattle.store_model.specs.Heads.{copies_of, groups_of, has_bud, with_group}
-use Rattle.store_model.specs.Invariant.{AreApart, CameSince, HasSince, IsSince}
-use Rattle.store_model.specs.Legal.{AreParts, FitHead, IsPart}
-use Rattle.store_model.specs.Store.{At, Bud, Carried, Index, Next, Store, View}
+use Rattle.store_model.specs.Heads.{copies_of, groups_of_head, has_bud, with_head_group}
+use Rattle.store_model.specs.Invariant.{AreRolesApart, CameSince, HasSince, IsSince}
+use Rattle.store_model.specs.Legal.{AreLegalParts, FitHead, IsLegalPart}
+use Rattle.store_model.specs.Store.{At, Bud, Carried, StoreIndex, Next, Store, View}
 use Rattle.store_model.proofs.Apart.{groups_other}
 use Rattle.store_model.proofs.BackingPuts.{groups_added, has_last}
 use Rattle.store_model.proofs.LebFrees.{filled_ends}
@@ -28,46 +28,46 @@ more_since a b all last x n e f c = record {
 }
 
 -- ---- a put
-head_since : (head h : ℕ) (group : List Carried) (old new : List Bud) (n : ℕ) → has_bud h old ≡ true → has_bud h new ≡ true → CameSince (groups_of head old) (groups_of head new) n
-    → CameSince (groups_of head (with_group h group old)) (groups_of head (with_group h group new)) n
+head_since : (head h : ℕ) (group : List Carried) (old new : List Bud) (n : ℕ) → has_bud h old ≡ true → has_bud h new ≡ true → CameSince (groups_of_head head old) (groups_of_head head new) n
+    → CameSince (groups_of_head head (with_head_group h group old)) (groups_of_head head (with_head_group h group new)) n
 head_since head h group old new n in_old in_new c = by (h == head) refl
   where
-    by : (b : Bool) → (h == head) ≡ b → CameSince (groups_of head (with_group h group old)) (groups_of head (with_group h group new)) n
+    by : (b : Bool) → (h == head) ≡ b → CameSince (groups_of_head head (with_head_group h group old)) (groups_of_head head (with_head_group h group new)) n
     by true e =
         let is = eqb-true h head e in
-        let first = subst (λ (k : ℕ). groups_of k (with_group h group old) ≡ groups_of k old ++ group ∷ []) is (groups_added h group old in_old) in
-        let second = subst (λ (k : ℕ). groups_of k (with_group h group new) ≡ groups_of k new ++ group ∷ []) is (groups_added h group new in_new) in
-        more_since (groups_of head (with_group h group old)) (groups_of head (with_group h group new)) (groups_of head old) (groups_of head new) group n first second c
+        let first = subst (λ (k : ℕ). groups_of_head k (with_head_group h group old) ≡ groups_of_head k old ++ group ∷ []) is (groups_added h group old in_old) in
+        let second = subst (λ (k : ℕ). groups_of_head k (with_head_group h group new) ≡ groups_of_head k new ++ group ∷ []) is (groups_added h group new in_new) in
+        more_since (groups_of_head head (with_head_group h group old)) (groups_of_head head (with_head_group h group new)) (groups_of_head head old) (groups_of_head head new) group n first second c
     by false e =
-        same_since (groups_of head (with_group h group old)) (groups_of head (with_group h group new)) (groups_of head old) (groups_of head new) n
+        same_since (groups_of_head head (with_head_group h group old)) (groups_of_head head (with_head_group h group new)) (groups_of_head head old) (groups_of_head head new) n
         (groups_other head h group old e) (groups_other head h group new e) c
 
-view_since : (m : Store) (part : Part) (view : View) (at : At) → end_at m.ends part.head ≡ Some at → AreApart m → IsSince m view
-    → IsSince (after_part m part) (record view { buds = with_group part.head part.group view.buds; put = view.put + length part.group })
+view_since : (m : Store) (part : Part) (view : View) (at : At) → end_at m.ends part.head ≡ Some at → AreRolesApart m → IsSince m view
+    → IsSince (after_part m part) (record view { buds = with_head_group part.head part.group view.buds; put = view.put + length part.group })
 view_since m part view at e a s =
     let old = has_last m.now.buds part.head at.lnum (end_bud m.now.buds 0 part.head part.head m.ends at (omega arith) a.ends e) in
     let new = has_last view.buds part.head at.lnum (end_bud view.buds 0 part.head part.head m.ends at (omega arith) s.ends e) in
     record {
-      copies = same_since (copies_of (with_group part.head part.group m.now.buds)) (copies_of (with_group part.head part.group view.buds)) (copies_of m.now.buds) (copies_of view.buds) (get_or m.synced 0 0)
+      copies = same_since (copies_of (with_head_group part.head part.group m.now.buds)) (copies_of (with_head_group part.head part.group view.buds)) (copies_of m.now.buds) (copies_of view.buds) (get_or m.synced 0 0)
           (copies_put part.head part.group m.now.buds) (copies_put part.head part.group view.buds) s.copies;
       base = head_since 1 part.head part.group m.now.buds view.buds (get_or m.synced 1 0) old new s.base;
       data_nodes = head_since 2 part.head part.group m.now.buds view.buds (get_or m.synced 2 0) old new s.data_nodes;
-      ends = ends_go_on view.buds (with_group part.head part.group view.buds) 0 part.head (moved_on m.geo (nodes_len (map (λ c. c.placed) part.group))) m.ends (λ n. last_put n part.head part.group view.buds) (λ at. refl) s.ends;
+      ends = ends_go_on view.buds (with_head_group part.head part.group view.buds) 0 part.head (moved_on m.geo (nodes_len (map (λ c. c.placed) part.group))) m.ends (λ n. last_put n part.head part.group view.buds) (λ at. refl) s.ends;
     }
 
-next_since : (m : Store) (part : Part) (at : At) (next : Option Next) → end_at m.ends part.head ≡ Some at → AreApart m → HasSince m next
-    → HasSince (after_part m part) (option_map (in_next (with_group part.head part.group) (length part.group)) next)
+next_since : (m : Store) (part : Part) (at : At) (next : Option Next) → end_at m.ends part.head ≡ Some at → AreRolesApart m → HasSince m next
+    → HasSince (after_part m part) (option_map (in_next (with_head_group part.head part.group) (length part.group)) next)
 next_since m part at None e a s = tt
 next_since m part at (Some next) e a s = view_since m part next.view at e a s
 
-pub part_since : (m : Store) (part : Part) → IsPart m part → AreApart m → HasSince m m.next → HasSince (after_part m part) (after_part m part).next
+pub part_since : (m : Store) (part : Part) → IsLegalPart m part → AreRolesApart m → HasSince m m.next → HasSince (after_part m part) (after_part m part).next
 part_since m part is a s = by (end_at m.ends part.head) refl is.fits
   where
     by : (o : Option At) → end_at m.ends part.head ≡ o → FitHead m o (map (λ c. c.placed) part.group) → HasSince (after_part m part) (after_part m part).next
     by None e fits = absurd fits
     by (Some at) e fits = next_since m part at m.next e a s
 
-parts_since : (parts : List Part) (m : Store) → AreParts m parts → AreApart m → HasSince m m.next → HasSince (fold after_part m parts) (fold after_part m parts).next
+parts_since : (parts : List Part) (m : Store) → AreLegalParts m parts → AreRolesApart m → HasSince m m.next → HasSince (fold after_part m parts) (fold after_part m parts).next
 parts_since [] m are a s = s
 parts_since (part ∷ parts) m are a s = parts_since parts (after_part m part) are.1 (part_apart m part are.0 a) (part_since m part are.0 a s)
 
@@ -81,7 +81,7 @@ as_since m k (Some next) now synced ends s = record {
   ends = rw ends s.ends;
 }
 
-pub put_since : (m : Store) (p : Putting) → AreParts m p.parts → AreApart m → HasSince m m.next → HasSince (put p m) (put p m).next
+pub put_since : (m : Store) (p : Putting) → AreLegalParts m p.parts → AreRolesApart m → HasSince m m.next → HasSince (put p m) (put p m).next
 put_since m p are a s = by p.payment (parts_since p.parts m are a s)
   where
     end : Store
@@ -100,8 +100,8 @@ opened_since m head lnum (Some next) s =
     let more : List Bud → List Bud = λ buds. buds ++ new_bud head lnum 0 ∷ [] in
     record {
       copies = same_since (copies_of (more old)) (copies_of (more new)) (copies_of old) (copies_of new) (get_or m.synced 0 0) (copies_open head lnum old) (copies_open head lnum new) s.copies;
-      base = same_since (groups_of 1 (more old)) (groups_of 1 (more new)) (groups_of 1 old) (groups_of 1 new) (get_or m.synced 1 0) (groups_open 1 head lnum old) (groups_open 1 head lnum new) s.base;
-      data_nodes = same_since (groups_of 2 (more old)) (groups_of 2 (more new)) (groups_of 2 old) (groups_of 2 new) (get_or m.synced 2 0) (groups_open 2 head lnum old) (groups_open 2 head lnum new) s.data_nodes;
+      base = same_since (groups_of_head 1 (more old)) (groups_of_head 1 (more new)) (groups_of_head 1 old) (groups_of_head 1 new) (get_or m.synced 1 0) (groups_open 1 head lnum old) (groups_open 1 head lnum new) s.base;
+      data_nodes = same_since (groups_of_head 2 (more old)) (groups_of_head 2 (more new)) (groups_of_head 2 old) (groups_of_head 2 new) (get_or m.synced 2 0) (groups_open 2 head lnum old) (groups_open 2 head lnum new) s.data_nodes;
       ends = open_ends head lnum 0 head (record { lnum = lnum; offs = 0; written = 0 }) new m.ends (omega arith) refl s.ends;
     }
 
@@ -118,13 +118,13 @@ synced_since : (m : Store) (next : Option Next) → HasSince m next → HasSince
 synced_since m None s = tt
 synced_since m (Some next) s = record {
   copies = all_since (copies_of m.now.buds) (copies_of next.view.buds) (get_or m.synced 0 0) s.copies;
-  base = all_since (groups_of 1 m.now.buds) (groups_of 1 next.view.buds) (get_or m.synced 1 0) s.base;
-  data_nodes = all_since (groups_of 2 m.now.buds) (groups_of 2 next.view.buds) (get_or m.synced 2 0) s.data_nodes;
+  base = all_since (groups_of_head 1 m.now.buds) (groups_of_head 1 next.view.buds) (get_or m.synced 1 0) s.base;
+  data_nodes = all_since (groups_of_head 2 m.now.buds) (groups_of_head 2 next.view.buds) (get_or m.synced 2 0) s.data_nodes;
   ends = filled_ends m.geo next.view.buds 0 m.ends s.ends;
 }
 
 pub sync_since : (m : Store) → HasSince m m.next → HasSince (sync m) (sync m).next
 sync_since m s = synced_since m m.next s
 
-pub drop_since : (m : Store) (ino : ℕ) (index : Index) → HasSince m m.next → HasSince (drop_inode ino index m) (drop_inode ino index m).next
+pub drop_since : (m : Store) (ino : ℕ) (index : StoreIndex) → HasSince m m.next → HasSince (drop_inode ino index m) (drop_inode ino index m).next
 drop_since m ino index s = as_since m (drop_inode ino index m) m.next refl refl refl s

@@ -6,8 +6,8 @@ use Rattle.std.specs.Option.{option_map, option_or}
 use Rattle.std.proofs.lemmas.Bool.{eq-eqb, eqb-true, false≢true}
 use Rattle.leaf_map.specs.Kept.{Placed}
 use Rattle.store_model.specs.Events.{begin, Copying, end_at, end_commit, free_victim, in_next, move, moved_on, new_bud, nodes_len, offer, offered, open_buds, start, write_index}
-use Rattle.store_model.specs.Heads.{copies_of, groups_of, has_bud, with_copy}
-use Rattle.store_model.specs.Invariant.{AreApart, AreAtBuds, CameSince, HasSince, IsSince, last_bud}
+use Rattle.store_model.specs.Heads.{copies_of, groups_of_head, has_bud, with_copy}
+use Rattle.store_model.specs.Invariant.{AreRolesApart, AreAtBuds, CameSince, HasSince, IsSince, last_bud}
 use Rattle.store_model.specs.Legal.{CanMove, CanStart, FitHead}
 use Rattle.store_model.specs.Store.{At, Bud, Moving, Next, Store, View}
 use Rattle.store_model.proofs.BackingPuts.{has_last}
@@ -98,8 +98,8 @@ all_before all last n none synced = record { before = all; is = sym (append-nil 
 pub start_since : (m : Store) (taken : List ℕ) → CanStart m taken → HasSince (start taken m) (start taken m).next
 start_since m taken can = record {
   copies = all_before (copies_of m.now.buds) (copies_of (open_buds 0 m.ends)) (get_or m.synced 0 0) (no_copies 0 m.ends) (ap (λ counts. get_or counts 0 0) can.synced.counts);
-  base = all_before (groups_of 1 m.now.buds) (groups_of 1 (open_buds 0 m.ends)) (get_or m.synced 1 0) (no_groups 1 0 m.ends) (ap (λ counts. get_or counts 1 0) can.synced.counts);
-  data_nodes = all_before (groups_of 2 m.now.buds) (groups_of 2 (open_buds 0 m.ends)) (get_or m.synced 2 0) (no_groups 2 0 m.ends) (ap (λ counts. get_or counts 2 0) can.synced.counts);
+  base = all_before (groups_of_head 1 m.now.buds) (groups_of_head 1 (open_buds 0 m.ends)) (get_or m.synced 1 0) (no_groups 1 0 m.ends) (ap (λ counts. get_or counts 1 0) can.synced.counts);
+  data_nodes = all_before (groups_of_head 2 m.now.buds) (groups_of_head 2 (open_buds 0 m.ends)) (get_or m.synced 2 0) (no_groups 2 0 m.ends) (ap (λ counts. get_or counts 2 0) can.synced.counts);
   ends = open_at (open_buds 0 m.ends) 0 0 m.ends refl (λ h low. refl);
 }
 
@@ -121,21 +121,21 @@ copies_added copy (bud ∷ buds) has = by (copies_added copy buds) (has_bud 0 bu
         rw (h, o, h) (ap (λ cs. (bud.copies ++ copy ∷ []) ++ cs) none ∙ append-nil (bud.copies ++ copy ∷ []) ∙ sym (ap (λ cs. (bud.copies ++ cs) ++ copy ∷ []) none ∙ ap (λ cs. cs ++ copy ∷ []) (append-nil bud.copies)))
     by rest false o false h any = absurd (false≢true any)
 
-moved_view : (m : Store) (c : Copying) (view : View) (at : At) → end_at m.ends 0 ≡ Some at → AreApart m → IsSince m view → IsSince (move c m) (record view { buds = with_copy c.copy view.buds; put = view.put + 0 })
+moved_view : (m : Store) (c : Copying) (view : View) (at : At) → end_at m.ends 0 ≡ Some at → AreRolesApart m → IsSince m view → IsSince (move c m) (record view { buds = with_copy c.copy view.buds; put = view.put + 0 })
 moved_view m c view at e a s =
     let old = has_last m.now.buds 0 at.lnum (end_bud m.now.buds 0 0 0 m.ends at (omega arith) a.ends e) in
     let new = has_last view.buds 0 at.lnum (end_bud view.buds 0 0 0 m.ends at (omega arith) s.ends e) in
     record {
       copies = more_since (copies_of (with_copy c.copy m.now.buds)) (copies_of (with_copy c.copy view.buds)) (copies_of m.now.buds) (copies_of view.buds) c.copy (get_or m.synced 0 0)
           (copies_added c.copy m.now.buds old) (copies_added c.copy view.buds new) s.copies;
-      base = same_since (groups_of 1 (with_copy c.copy m.now.buds)) (groups_of 1 (with_copy c.copy view.buds)) (groups_of 1 m.now.buds) (groups_of 1 view.buds) (get_or m.synced 1 0)
+      base = same_since (groups_of_head 1 (with_copy c.copy m.now.buds)) (groups_of_head 1 (with_copy c.copy view.buds)) (groups_of_head 1 m.now.buds) (groups_of_head 1 view.buds) (get_or m.synced 1 0)
           (groups_copied 1 c.copy m.now.buds) (groups_copied 1 c.copy view.buds) s.base;
-      data_nodes = same_since (groups_of 2 (with_copy c.copy m.now.buds)) (groups_of 2 (with_copy c.copy view.buds)) (groups_of 2 m.now.buds) (groups_of 2 view.buds) (get_or m.synced 2 0)
+      data_nodes = same_since (groups_of_head 2 (with_copy c.copy m.now.buds)) (groups_of_head 2 (with_copy c.copy view.buds)) (groups_of_head 2 m.now.buds) (groups_of_head 2 view.buds) (get_or m.synced 2 0)
           (groups_copied 2 c.copy m.now.buds) (groups_copied 2 c.copy view.buds) s.data_nodes;
       ends = ends_go_on view.buds (with_copy c.copy view.buds) 0 0 (moved_on m.geo (nodes_len (c.copy ∷ []))) m.ends (λ n. last_copied n c view.buds) (λ at. refl) s.ends;
     }
 
-pub move_since : (m : Store) (c : Copying) → CanMove m c → AreApart m → HasSince m m.next → HasSince (move c m) (move c m).next
+pub move_since : (m : Store) (c : Copying) → CanMove m c → AreRolesApart m → HasSince m m.next → HasSince (move c m) (move c m).next
 move_since m c can a s = by (end_at m.ends 0) refl can.fits
   where
     of : (at : At) → end_at m.ends 0 ≡ Some at → (next : Option Next) → HasSince m next → HasSince (move c m) (option_map (in_next (with_copy c.copy) 0) next)

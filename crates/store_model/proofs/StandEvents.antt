@@ -10,9 +10,9 @@ use Rattle.index_tree.specs.Distinct.{AreDistinct}
 use Rattle.index_tree.specs.Removal.{same_leaf}
 use Rattle.leaf_map.specs.Kept.{Kept, kept_at}
 use Rattle.media_leaf.specs.LeafNode.{LeafNode}
-use Rattle.store_model.specs.Events.{after, at_copy, Begin, Copying, Drop, End, end_at, end_commit, Event, Free, free_victim, Move, move, node_items, Offer, Open, Put, role_after, role_then, Start, Sync, take_leb, view_branchings, with_items, Write, write_index}
-use Rattle.store_model.specs.Invariant.{AreApart, IsMeantIn, IsStore, IsTaking, Stands}
-use Rattle.store_model.specs.Lebs.{changed_leb, emptied, has_node, has_role, is_among, is_role, stands_in}
+use Rattle.store_model.specs.Events.{after, at_its_copy, Begin, Copying, Drop, End, end_at, end_commit, Event, Free, free_victim, Move, move, node_items, Offer, Open, Put, role_after, role_then, Start, Sync, take_leb, view_branchings, with_items, Write, write_index}
+use Rattle.store_model.specs.Invariant.{AreRolesApart, IsMeantIn, IsStore, IsTaking, LeafStands}
+use Rattle.store_model.specs.Lebs.{changed_leb, emptied_leb, has_node, has_role, is_among, is_role, stands_in}
 use Rattle.store_model.specs.Legal.{are_distinct, CanMove, FitHead, IfMoving, IfRunning, IsLeafOf, IsLegalEvent}
 use Rattle.store_model.specs.Store.{At, Item, leaf, Leb, Moving, Next, Store, View}
 use Rattle.store_model.proofs.LebEnds.{ended_store}
@@ -29,19 +29,19 @@ use Rattle.store_model.proofs.TextItems.{row_there}
 
 -- ---- a collection
 -- no live leaf stands in a LEB that is emptied
-all_emptied : (n : ℕ) (lebs : List Leb) (xs : List Kept) → list_any (stands_in n) xs ≡ false → AllByRecursion (Stands lebs) xs → AllByRecursion (Stands (changed_leb n emptied lebs)) xs
+all_emptied : (n : ℕ) (lebs : List Leb) (xs : List Kept) → list_any (stands_in n) xs ≡ false → AllByRecursion (LeafStands lebs) xs → AllByRecursion (LeafStands (changed_leb n emptied_leb lebs)) xs
 all_emptied n lebs [] none s = tt
 all_emptied n lebs (x ∷ xs) none s =
     let p = or_false (stands_in n x) (list_any (stands_in n) xs) none in (
-      stands_map (λ leb. cond (leb.lnum == n) (emptied leb) leb) x lebs (λ leb. changed_number n emptied (λ leb. refl) leb (leb.lnum == n)) (λ leb same is. keeps leb same is p.0 (leb.lnum == n) refl) s.0,
+      stands_map (λ leb. cond (leb.lnum == n) (emptied_leb leb) leb) x lebs (λ leb. changed_number n emptied_leb (λ leb. refl) leb (leb.lnum == n)) (λ leb same is. keeps leb same is p.0 (leb.lnum == n) refl) s.0,
       all_emptied n lebs xs p.1 s.1,
     )
   where
-    keeps : (leb : Leb) → leb.lnum ≡ x.leaf.lnum → IsMeantIn x leb.text → (x.leaf.lnum == n) ≡ false → (b : Bool) → (leb.lnum == n) ≡ b → IsMeantIn x (cond b (emptied leb) leb).text
+    keeps : (leb : Leb) → leb.lnum ≡ x.leaf.lnum → IsMeantIn x leb.text → (x.leaf.lnum == n) ≡ false → (b : Bool) → (leb.lnum == n) ≡ b → IsMeantIn x (cond b (emptied_leb leb) leb).text
     keeps leb same is away true e = absurd (false≢true (sym away ∙ ap (λ (k : ℕ). k == n) (sym same) ∙ e))
     keeps leb same is away false e = is
 
-free_stands : (m : Store) (moving : Option Moving) → m.moving ≡ moving → IfMoving m (λ moving. not (list_any (stands_in moving.victim) m.live) ≡ true) → AllByRecursion (Stands m.lebs) m.live → AllByRecursion (Stands (free_victim m moving).lebs) (free_victim m moving).live
+free_stands : (m : Store) (moving : Option Moving) → m.moving ≡ moving → IfMoving m (λ moving. not (list_any (stands_in moving.victim) m.live) ≡ true) → AllByRecursion (LeafStands m.lebs) m.live → AllByRecursion (LeafStands (free_victim m moving).lebs) (free_victim m moving).live
 free_stands m None e can s = s
 free_stands m (Some moving) e can s =
     let none : not (list_any (stands_in moving.victim) m.live) ≡ true = rw e at can in
@@ -53,27 +53,27 @@ copy_is c x node sqnum same =
     let l : Leaf = (kept_at c.copy).leaf in
     ap (λ (y : Kept). record y { leaf = l }) same ∙ ap (λ (n : LeafNode). record c.leaf { leaf = l; node = n }) (sym node) ∙ ap (λ (n : ℕ). record c.leaf { leaf = l; node = c.copy.node; sqnum = n }) (sym sqnum)
 
-one_moved : (m : Store) (c : Copying) (lnum : ℕ) → CanMove m c → AreDistinct (map (λ x. x.leaf) m.live) → Stands (with_items lnum (leaf c.copy ∷ []) m.lebs) (kept_at c.copy) → (x : Kept) → IsLeafOf m.live x → Stands m.lebs x → Stands (with_items lnum (leaf c.copy ∷ []) m.lebs) (at_copy c x)
+one_moved : (m : Store) (c : Copying) (lnum : ℕ) → CanMove m c → AreDistinct (map (λ x. x.leaf) m.live) → LeafStands (with_items lnum (leaf c.copy ∷ []) m.lebs) (kept_at c.copy) → (x : Kept) → IsLeafOf m.live x → LeafStands m.lebs x → LeafStands (with_items lnum (leaf c.copy ∷ []) m.lebs) (at_its_copy c x)
 one_moved m c lnum can d new x is s = by (same_leaf x.leaf c.leaf.leaf) refl
   where
-    by : (b : Bool) → same_leaf x.leaf c.leaf.leaf ≡ b → Stands (with_items lnum (leaf c.copy ∷ []) m.lebs) (cond b (record x { leaf = (kept_at c.copy).leaf }) x)
-    by true e = subst (Stands (with_items lnum (leaf c.copy ∷ []) m.lebs)) (sym (copy_is c x can.node_is can.sqnum (one_leaf m.live c.leaf x d can.live is e))) new
+    by : (b : Bool) → same_leaf x.leaf c.leaf.leaf ≡ b → LeafStands (with_items lnum (leaf c.copy ∷ []) m.lebs) (cond b (record x { leaf = (kept_at c.copy).leaf }) x)
+    by true e = subst (LeafStands (with_items lnum (leaf c.copy ∷ []) m.lebs)) (sym (copy_is c x can.node_is can.sqnum (one_leaf m.live c.leaf x d can.live is e))) new
     by false e = items_stand lnum (leaf c.copy ∷ []) m.lebs x s
 
-all_moved : (m : Store) (c : Copying) (lnum : ℕ) → CanMove m c → AreDistinct (map (λ x. x.leaf) m.live) → Stands (with_items lnum (leaf c.copy ∷ []) m.lebs) (kept_at c.copy) → (xs : List Kept) → AllByRecursion (IsLeafOf m.live) xs → AllByRecursion (Stands m.lebs) xs
-    → AllByRecursion (Stands (with_items lnum (leaf c.copy ∷ []) m.lebs)) (map (at_copy c) xs)
+all_moved : (m : Store) (c : Copying) (lnum : ℕ) → CanMove m c → AreDistinct (map (λ x. x.leaf) m.live) → LeafStands (with_items lnum (leaf c.copy ∷ []) m.lebs) (kept_at c.copy) → (xs : List Kept) → AllByRecursion (IsLeafOf m.live) xs → AllByRecursion (LeafStands m.lebs) xs
+    → AllByRecursion (LeafStands (with_items lnum (leaf c.copy ∷ []) m.lebs)) (map (at_its_copy c) xs)
 all_moved m c lnum can d new [] are s = tt
 all_moved m c lnum can d new (x ∷ xs) are s = (one_moved m c lnum can d new x are.0 s.0, all_moved m c lnum can d new xs are.1 s.1)
 
-move_stands : (m : Store) (c : Copying) → CanMove m c → AreDistinct (map (λ x. x.leaf) m.live) → AreApart m → AllByRecursion (Stands m.lebs) m.live → AllByRecursion (Stands (move c m).lebs) (move c m).live
+move_stands : (m : Store) (c : Copying) → CanMove m c → AreDistinct (map (λ x. x.leaf) m.live) → AreRolesApart m → AllByRecursion (LeafStands m.lebs) m.live → AllByRecursion (LeafStands (move c m).lebs) (move c m).live
 move_stands m c can d a s = by (end_at m.ends 0) refl can.fits
   where
-    by : (o : Option At) → end_at m.ends 0 ≡ o → FitHead m o (c.copy ∷ []) → AllByRecursion (Stands (move c m).lebs) (map (at_copy c) m.live)
+    by : (o : Option At) → end_at m.ends 0 ≡ o → FitHead m o (c.copy ∷ []) → AllByRecursion (LeafStands (move c m).lebs) (map (at_its_copy c) m.live)
     by None e fits = absurd fits
     by (Some at) e fits =
         let same : (move c m).lebs ≡ with_items at.lnum (leaf c.copy ∷ []) m.lebs = rw e refl in
         let there = row_there kind.Bud at.lnum m.lebs (head_role m 0 at a e) in
-        subst (λ (lebs : List Leb). AllByRecursion (Stands lebs) (map (at_copy c) m.live)) (sym same)
+        subst (λ (lebs : List Leb). AllByRecursion (LeafStands lebs) (map (at_its_copy c) m.live)) (sym same)
         (all_moved m c at.lnum can d (put_stand at.lnum (c.copy ∷ []) m.lebs c.copy there fits.0.0 (inl refl)) m.live (all_leaves m.live) s)
 
 -- ---- a commit
@@ -91,8 +91,8 @@ take_meant taken leb x is = by (is_among taken leb.lnum)
     by true = is
     by false = is
 
-pub start_stands : (m : Store) (taken : List ℕ) (xs : List Kept) → AllByRecursion (Stands m.lebs) xs → AllByRecursion (Stands (map (take_leb taken) m.lebs)) xs
-start_stands m taken xs s = each_weaker (Stands m.lebs) (Stands (map (take_leb taken) m.lebs)) (λ x h. stands_map (take_leb taken) x m.lebs (take_number taken) (λ leb same is. take_meant taken leb x is) h) xs s
+pub start_stands : (m : Store) (taken : List ℕ) (xs : List Kept) → AllByRecursion (LeafStands m.lebs) xs → AllByRecursion (LeafStands (map (take_leb taken) m.lebs)) xs
+start_stands m taken xs s = each_weaker (LeafStands m.lebs) (LeafStands (map (take_leb taken) m.lebs)) (λ x h. stands_map (take_leb taken) x m.lebs (take_number taken) (λ leb same is. take_meant taken leb x is) h) xs s
 
 -- a LEB that is written was taken, so no leaf stands there
 pub among_taken : (test : ℕ → Bool) (numbers : List ℕ) (n : ℕ) → n < length numbers → list_all test numbers ≡ true → test (get_or numbers n 0) ≡ true
@@ -101,7 +101,7 @@ among_taken test (k ∷ numbers) zero low h = (and_parts (test k) (list_all test
 among_taken test (k ∷ numbers) (suc n) low h = among_taken test numbers n (omega (arith, low)) (and_parts (test k) (list_all test numbers) h).1
 
 pub all_written : (rs : List (ℕ × LebKind)) (text : List Item) (n : ℕ) (lebs : List Leb) (xs : List Kept) → are_distinct (numbers_of rs) ≡ true → has_row kind.Taken rs n ≡ true
-    → list_all (λ x. has_row kind.Leaf rs x.leaf.lnum || has_row kind.Bud rs x.leaf.lnum) xs ≡ true → AllByRecursion (Stands lebs) xs → AllByRecursion (Stands (changed_leb n (λ leb. record leb { text = text }) lebs)) xs
+    → list_all (λ x. has_row kind.Leaf rs x.leaf.lnum || has_row kind.Bud rs x.leaf.lnum) xs ≡ true → AllByRecursion (LeafStands lebs) xs → AllByRecursion (LeafStands (changed_leb n (λ leb. record leb { text = text }) lebs)) xs
 all_written rs text n lebs [] d is h s = tt
 all_written rs text n lebs (x ∷ xs) d is h s =
     let p = and_parts (has_row kind.Leaf rs x.leaf.lnum || has_row kind.Bud rs x.leaf.lnum) (list_all (λ x. has_row kind.Leaf rs x.leaf.lnum || has_row kind.Bud rs x.leaf.lnum) xs) h in
@@ -121,7 +121,7 @@ all_written rs text n lebs (x ∷ xs) d is h s =
     keeps leb same is away true e = absurd (false≢true (sym away ∙ eq-eqb n x.leaf.lnum (sym (eqb-true leb.lnum n e) ∙ same)))
     keeps leb same is away false e = is
 
-write_stands : (m : Store) (next : Option Next) → m.next ≡ next → IfRunning m (λ next. next.written < length next.taken) → AreApart m → IsTaking m m.next → AllByRecursion (Stands m.lebs) m.live → AllByRecursion (Stands (write_index m next).lebs) (write_index m next).live
+write_stands : (m : Store) (next : Option Next) → m.next ≡ next → IfRunning m (λ next. next.written < length next.taken) → AreRolesApart m → IsTaking m m.next → AllByRecursion (LeafStands m.lebs) m.live → AllByRecursion (LeafStands (write_index m next).lebs) (write_index m next).live
 write_stands m None e can a t s = s
 write_stands m (Some next) e can a t s =
     let lnum : ℕ = get_or next.taken next.written 0 in
@@ -141,7 +141,7 @@ then_number view leb kind.Leaf = refl
 then_number view leb kind.Taken = refl
 then_number view leb kind.Index = by (has_node view.places leb.lnum)
   where
-    by : (b : Bool) → (cond b leb (emptied leb)).lnum ≡ leb.lnum
+    by : (b : Bool) → (cond b leb (emptied_leb leb)).lnum ≡ leb.lnum
     by true = refl
     by false = refl
 then_number view leb kind.Bud = by (list_any (λ bud. bud.lnum == leb.lnum) view.buds)
@@ -161,13 +161,13 @@ then_meant view leb kind.Free x h is = absurd (false≢true h)
 then_meant view leb kind.Index x h is = absurd (false≢true h)
 then_meant view leb kind.Taken x h is = absurd (false≢true h)
 
-stands_number : (lebs : List Leb) (x : Kept) → Stands lebs x → list_any (λ k. k == x.leaf.lnum) (numbers_of (rows lebs)) ≡ true
+stands_number : (lebs : List Leb) (x : Kept) → LeafStands lebs x → list_any (λ k. k == x.leaf.lnum) (numbers_of (rows lebs)) ≡ true
 stands_number [] x s = absurd s
 stands_number (leb ∷ lebs) x (inl is) = or_left (leb.lnum == x.leaf.lnum) (list_any (λ k. k == x.leaf.lnum) (numbers_of (rows lebs))) (eq-eqb leb.lnum x.leaf.lnum is.0)
 stands_number (leb ∷ lebs) x (inr s) = or_right (leb.lnum == x.leaf.lnum) (list_any (λ k. k == x.leaf.lnum) (numbers_of (rows lebs))) (stands_number lebs x s)
 
 -- of a LEB with leaves the role is one of the two
-pub stands_after : (view : View) (x : Kept) (lebs : List Leb) → are_distinct (numbers_of (rows lebs)) ≡ true → (has_row kind.Leaf (rows lebs) x.leaf.lnum || has_row kind.Bud (rows lebs) x.leaf.lnum) ≡ true → Stands lebs x → Stands (map (role_after view) lebs) x
+pub stands_after : (view : View) (x : Kept) (lebs : List Leb) → are_distinct (numbers_of (rows lebs)) ≡ true → (has_row kind.Leaf (rows lebs) x.leaf.lnum || has_row kind.Bud (rows lebs) x.leaf.lnum) ≡ true → LeafStands lebs x → LeafStands (map (role_after view) lebs) x
 stands_after view x [] d h s = absurd s
 stands_after view x (leb ∷ lebs) d h s = by (stands_after view x lebs parts.1) s
   where
@@ -195,36 +195,36 @@ stands_after view x (leb ∷ lebs) d h s = by (stands_after view x lebs parts.1)
     which = either_of (has_row kind.Leaf (rows (leb ∷ lebs)) x.leaf.lnum) (has_row kind.Bud (rows (leb ∷ lebs)) x.leaf.lnum) h
 
     -- where the leaf stands further on, the first row isn't its LEB's
-    past : (role : LebKind) → Stands lebs x → (((leb.lnum == x.leaf.lnum) && is_role role leb.role) ≡ true) ⊎ (has_row role (rows lebs) x.leaf.lnum ≡ true) → has_row role (rows lebs) x.leaf.lnum ≡ true
+    past : (role : LebKind) → LeafStands lebs x → (((leb.lnum == x.leaf.lnum) && is_role role leb.role) ≡ true) ⊎ (has_row role (rows lebs) x.leaf.lnum ≡ true) → has_row role (rows lebs) x.leaf.lnum ≡ true
     past role s (inl e) =
         let same = eqb-true leb.lnum x.leaf.lnum (and_parts (leb.lnum == x.leaf.lnum) (is_role role leb.role) e).0 in
         let there = subst (λ (n : ℕ). list_any (λ k. k == n) (numbers_of (rows lebs)) ≡ true) (sym same) (stands_number lebs x s) in
         absurd (false≢true (sym (not_true (list_any (λ k. k == leb.lnum) (numbers_of (rows lebs))) parts.0) ∙ there))
     past role s (inr more) = more
 
-    rest : Stands lebs x → (has_row kind.Leaf (rows (leb ∷ lebs)) x.leaf.lnum ≡ true) ⊎ (has_row kind.Bud (rows (leb ∷ lebs)) x.leaf.lnum ≡ true) → (has_row kind.Leaf (rows lebs) x.leaf.lnum || has_row kind.Bud (rows lebs) x.leaf.lnum) ≡ true
+    rest : LeafStands lebs x → (has_row kind.Leaf (rows (leb ∷ lebs)) x.leaf.lnum ≡ true) ⊎ (has_row kind.Bud (rows (leb ∷ lebs)) x.leaf.lnum ≡ true) → (has_row kind.Leaf (rows lebs) x.leaf.lnum || has_row kind.Bud (rows lebs) x.leaf.lnum) ≡ true
     rest s (inl e) = or_left (has_row kind.Leaf (rows lebs) x.leaf.lnum) (has_row kind.Bud (rows lebs) x.leaf.lnum) (past kind.Leaf s (either_of ((leb.lnum == x.leaf.lnum) && is_role kind.Leaf leb.role) (has_row kind.Leaf (rows lebs) x.leaf.lnum) e))
     rest s (inr e) = or_right (has_row kind.Leaf (rows lebs) x.leaf.lnum) (has_row kind.Bud (rows lebs) x.leaf.lnum) (past kind.Bud s (either_of ((leb.lnum == x.leaf.lnum) && is_role kind.Bud leb.role) (has_row kind.Bud (rows lebs) x.leaf.lnum) e))
 
-    by : ((has_row kind.Leaf (rows lebs) x.leaf.lnum || has_row kind.Bud (rows lebs) x.leaf.lnum) ≡ true → Stands lebs x → Stands (map (role_after view) lebs) x) → Stands (leb ∷ lebs) x → Stands (map (role_after view) (leb ∷ lebs)) x
+    by : ((has_row kind.Leaf (rows lebs) x.leaf.lnum || has_row kind.Bud (rows lebs) x.leaf.lnum) ≡ true → LeafStands lebs x → LeafStands (map (role_after view) lebs) x) → LeafStands (leb ∷ lebs) x → LeafStands (map (role_after view) (leb ∷ lebs)) x
     by more (inl is) = inl (then_number view leb leb.role ∙ is.0, then_meant view leb leb.role x (here is.0 which) is.1)
     by more (inr s) = inr (more (rest s which) s)
 
-all_after : (view : View) (lebs : List Leb) (xs : List Kept) → are_distinct (numbers_of (rows lebs)) ≡ true → list_all (λ x. has_row kind.Leaf (rows lebs) x.leaf.lnum || has_row kind.Bud (rows lebs) x.leaf.lnum) xs ≡ true → AllByRecursion (Stands lebs) xs
-    → AllByRecursion (Stands (map (role_after view) lebs)) xs
+all_after : (view : View) (lebs : List Leb) (xs : List Kept) → are_distinct (numbers_of (rows lebs)) ≡ true → list_all (λ x. has_row kind.Leaf (rows lebs) x.leaf.lnum || has_row kind.Bud (rows lebs) x.leaf.lnum) xs ≡ true → AllByRecursion (LeafStands lebs) xs
+    → AllByRecursion (LeafStands (map (role_after view) lebs)) xs
 all_after view lebs [] d h s = tt
 all_after view lebs (x ∷ xs) d h s =
     let p = and_parts (has_row kind.Leaf (rows lebs) x.leaf.lnum || has_row kind.Bud (rows lebs) x.leaf.lnum) (list_all (λ x. has_row kind.Leaf (rows lebs) x.leaf.lnum || has_row kind.Bud (rows lebs) x.leaf.lnum) xs) h in
     (stands_after view x lebs d p.0 s.0, all_after view lebs xs d p.1 s.1)
 
-end_stands : (m : Store) (next : Option Next) → AreApart m → AllByRecursion (Stands m.lebs) m.live → AllByRecursion (Stands (end_commit m next).lebs) (end_commit m next).live
+end_stands : (m : Store) (next : Option Next) → AreRolesApart m → AllByRecursion (LeafStands m.lebs) m.live → AllByRecursion (LeafStands (end_commit m next).lebs) (end_commit m next).live
 end_stands m None a s = s
 end_stands m (Some next) a s =
     let r = to_rows m a in
     all_freed (ended_store m next) (map (role_after next.view) m.lebs) m.live (all_stand m.live) (all_after next.view m.lebs m.live r.numbers r.leaves s)
 
 -- ---- all events
-pub each_stands : (m : Store) (event : Event) → IsLegalEvent m event → IsStore m → AllByRecursion (Stands (after event m).lebs) (after event m).live
+pub each_stands : (m : Store) (event : Event) → IsLegalEvent m event → IsStore m → AllByRecursion (LeafStands (after event m).lebs) (after event m).live
 each_stands m (Put p) can s = put_stands m p can.parts s.apart s.stands
 each_stands m (Open head lnum) can s = open_stands m head lnum can.empty s.apart s.stands
 each_stands m Sync can s = sync_stands m s.stands

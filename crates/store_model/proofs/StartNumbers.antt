@@ -7,7 +7,7 @@ use Rattle.fs_model.specs.Settled.{IsSettled}
 use Rattle.space_sums.specs.Spaces.{at_cut, IsNextIndex, IsSettledTwice, Running, with_empty}
 use Rattle.store_model.specs.Events.{start, view_now, next_list}
 use Rattle.store_model.specs.Invariant.{HasNextIndex, IsStore}
-use Rattle.store_model.specs.Lebs.{is_among, is_role, IsSettledWith, IsStoreSettled, lent, running_of, space_of}
+use Rattle.store_model.specs.Lebs.{is_among, is_role, IsSettledWith, IsStoreSettled, lent, running_commit_of, space_of}
 use Rattle.store_model.specs.Legal.{CanStart}
 use Rattle.store_model.specs.Store.{Next, Store}
 use Rattle.store_model.proofs.GrantCounts.{start_index}
@@ -44,4 +44,4 @@ start_settled law m taken can s small =
     let a = old.empty in
     let b = old.index in
     let index = start_index m taken can s.apart in
-    law m.geo (running_of k next) (with_empty (lent m.moving) (space_of k)) (record { lebs = small.lebs; weight = small.weight }) (record { empty = omega (arith, a, none, left, most, now, before); index = omega (arith, b, index, none, left, most, now, before) })
+    law m.geo (running_commit_of k next) (with_empty (lent m.moving) (space_of k)) (record { lebs = small.lebs; weight = small.weight }) (record { empty = omega (arith, a, none, left, most, now, before); index = omega (arith, b, index, none, left, most, now, before) })

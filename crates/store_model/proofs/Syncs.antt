@@ -4,7 +4,7 @@ use Rattle.std.specs.Prelude.{IsTrue, nat_le}
 use Rattle.std.specs.List.{list_all}
 use Rattle.store_model.specs.Events.{sync, synced_orphan}
 use Rattle.store_model.specs.Invariant.{AreNumbered, HasNumbers, OfNext, are_within}
-use Rattle.store_model.specs.Heads.{counts_of}
+use Rattle.store_model.specs.Heads.{head_counts}
 use Rattle.store_model.specs.Store.{Next, Orphan, Store}
 
 -- orphans that are synced are all synced
@@ -29,5 +29,5 @@ pub synced_numbers : (m : Store) → HasNumbers m → HasNumbers (sync m)
 synced_numbers m n = record {
   both = (record { base = n.both.0.base; data_nodes = n.both.0.data_nodes; apart = n.both.0.apart; kept = n.both.0.kept }, next_numbers m m.next n.both.1);
   live = n.live;
-  synced = within_self (counts_of m.now.buds);
+  synced = within_self (head_counts m.now.buds);
 }

@@ -6,7 +6,7 @@ use Rattle.std.specs.Option.{option_map}
 use Rattle.media_lpt.specs.declared.leb_kind.LebKind.TheVariants as kind
 use Rattle.store_model.specs.Events.{begin, Copying, end_at, end_commit, free_victim, move, node_items, offer, offered, view_branchings, write_index}
 use Rattle.store_model.specs.Heads.{with_copy}
-use Rattle.store_model.specs.Invariant.{AreApart, IsTaking}
+use Rattle.store_model.specs.Invariant.{AreRolesApart, IsTaking}
 use Rattle.store_model.specs.Lebs.{has_role}
 use Rattle.store_model.specs.Legal.{IfRunning}
 use Rattle.store_model.specs.Store.{Bud, Moving, Next, Store}
@@ -28,7 +28,7 @@ move_taking m c t =
     ∙ all_weaker (λ (bud : Bud). has_role kind.Bud m.lebs bud.lnum) (λ bud. has_role kind.Bud k.lebs bud.lnum) (λ bud e. of_same kind.Bud m k same bud.lnum e) buds h in
     taking_buds (with_copy c.copy) 0 m k m.next (of_same kind.Taken m k same) (of_same kind.Index m k same) buds t
 
-freed_taking : (m : Store) (moving : Moving) → m.moving ≡ Some moving → AreApart m → IsTaking m m.next → IsTaking (free_victim m (Some moving)) m.next
+freed_taking : (m : Store) (moving : Moving) → m.moving ≡ Some moving → AreRolesApart m → IsTaking m m.next → IsTaking (free_victim m (Some moving)) m.next
 freed_taking m moving e a t =
     let k : Store = free_victim m (Some moving) in
     let r = to_rows m a in
@@ -39,7 +39,7 @@ freed_taking m moving e a t =
     (of_rows kind.Index m k (free_row v) (free_rows v m.lebs) (λ n h. free_keeps kind.Index v n (rows m.lebs) r.numbers leaf refl h))
     (of_rows kind.Bud m k (free_row v) (free_rows v m.lebs) (λ n h. free_keeps kind.Bud v n (rows m.lebs) r.numbers leaf refl h)) t
 
-pub free_taking : (m : Store) (moving : Option Moving) → m.moving ≡ moving → AreApart m → IsTaking m m.next → IsTaking (free_victim m moving) (free_victim m moving).next
+pub free_taking : (m : Store) (moving : Option Moving) → m.moving ≡ moving → AreRolesApart m → IsTaking m m.next → IsTaking (free_victim m moving) (free_victim m moving).next
 free_taking m None e a t = t
 free_taking m (Some moving) e a t = freed_taking m moving e a t
 

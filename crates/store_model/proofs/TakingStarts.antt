@@ -13,10 +13,10 @@ use Rattle.media_lpt.specs.declared.leb_kind.LebKind.TheVariants as kind
 use Rattle.index_tree.specs.Shape.{node_count, Shape}
 use Rattle.fs_model.specs.Cover.{index_lebs}
 use Rattle.store_model.specs.Events.{all_places, clean_places, dirty_count, open_buds, start}
-use Rattle.store_model.specs.Invariant.{AreApart, AreAtBuds, IsTaking}
+use Rattle.store_model.specs.Invariant.{AreRolesApart, AreAtBuds, IsTaking}
 use Rattle.store_model.specs.Lebs.{has_role, is_among, is_role, space_of}
 use Rattle.store_model.specs.Legal.{CanStart, KeepPlaces, StandsBelow}
-use Rattle.store_model.specs.Store.{At, Bud, Place, Store}
+use Rattle.store_model.specs.Store.{At, Bud, IndexNodePlace, Store}
 use Rattle.store_model.proofs.LebPuts.{last_passes}
 use Rattle.store_model.proofs.LebRows.{Row, all_weaker, has_row, role_row, rows, to_rows}
 use Rattle.store_model.proofs.LebStarts.{take_keeps, take_row, take_rows}
@@ -72,7 +72,7 @@ place_in n most per some low = by (nat_le ((most + per - 1) / per) (n / per)) re
         absurd (omega (arith, less, below, whole, rest, low, some))
     by false e = let above = leb-false ((most + per - 1) / per) (n / per) e in omega (arith, above)
 
-pub places_taken : (geo : RawGeometry) (taken : List ℕ) (test : ℕ → Bool) (most n : ℕ) (places : List (Option Place)) → 0 < index_nodes_per_leb geo → length taken ≡ index_lebs geo most → n + dirty_count places ≤ most
+pub places_taken : (geo : RawGeometry) (taken : List ℕ) (test : ℕ → Bool) (most n : ℕ) (places : List (Option IndexNodePlace)) → 0 < index_nodes_per_leb geo → length taken ≡ index_lebs geo most → n + dirty_count places ≤ most
     → list_all (λ o. option_map_or (λ place. test place.lnum) o true) places ≡ true → list_all (λ place. test place.lnum || is_among taken place.lnum) (all_places geo taken n places) ≡ true
 places_taken geo taken test most n [] some count few h = refl
 places_taken geo taken test most n (None ∷ places) some count few h =
@@ -86,11 +86,11 @@ places_taken geo taken test most n (Some place ∷ places) some count few h =
     and_from (test place.lnum || is_among taken place.lnum) (list_all (λ place. test place.lnum || is_among taken place.lnum) (all_places geo taken n places))
     (or_left (test place.lnum) (is_among taken place.lnum) p.0) (places_taken geo taken test most n places some count few p.1)
 
-pub all_dirty : (places : List (Option Place)) → dirty_count (map (λ place. None) places) ≡ length places
+pub all_dirty : (places : List (Option IndexNodePlace)) → dirty_count (map (λ place. None) places) ≡ length places
 all_dirty [] = refl
 all_dirty (place ∷ places) = ap (λ n. suc n) (all_dirty places)
 
-pub none_placed : (test : ℕ → Bool) (places : List (Option Place)) → list_all (λ o. option_map_or (λ (place : Place). test place.lnum) o true) (map (λ place. None) places) ≡ true
+pub none_placed : (test : ℕ → Bool) (places : List (Option IndexNodePlace)) → list_all (λ o. option_map_or (λ (place : IndexNodePlace). test place.lnum) o true) (map (λ place. None) places) ≡ true
 none_placed test [] = refl
 none_placed test (place ∷ places) = none_placed test places
 
@@ -101,12 +101,12 @@ ends_pass test buds k j (None ∷ ends) h are = ends_pass test buds (suc k) (j +
 ends_pass test buds k j (Some at ∷ ends) h are =
     and_from (test at.lnum) (list_all (λ bud. test bud.lnum) (open_buds (suc k) ends)) (last_passes test j at.lnum buds h are.0) (ends_pass test buds (suc k) (j + 1) ends h are.1)
 
-pub start_taking : (m : Store) (taken : List ℕ) → 0 < index_nodes_per_leb m.geo → CanStart m taken → AreApart m → length m.index.places ≡ node_count m.index.shape
+pub start_taking : (m : Store) (taken : List ℕ) → 0 < index_nodes_per_leb m.geo → CanStart m taken → AreRolesApart m → length m.index.places ≡ node_count m.index.shape
     → list_all (λ o. option_map_or (λ place. has_role kind.Index m.lebs place.lnum) o true) m.index.places ≡ true → IsTaking (start taken m) (start taken m).next
 start_taking m taken some can a count there = (
   both_hold (has_row kind.Free rs) (is_among taken) (has_role kind.Taken k.lebs) (λ n h i. role_row kind.Taken k.lebs n ∙ ap (λ (z : List Row). has_row kind.Taken z n) (take_rows taken m.lebs) ∙ taken_row taken n rs i h) taken free
       (all_among taken taken (λ n h. h)),
-  all_weaker (λ (place : Place). has_role kind.Index m.lebs place.lnum || is_among taken place.lnum) (λ place. has_role kind.Index k.lebs place.lnum || is_among taken place.lnum)
+  all_weaker (λ (place : IndexNodePlace). has_role kind.Index m.lebs place.lnum || is_among taken place.lnum) (λ place. has_role kind.Index k.lebs place.lnum || is_among taken place.lnum)
       (λ place h. of place.lnum (either_of (has_role kind.Index m.lebs place.lnum) (is_among taken place.lnum) h)) (all_places m.geo taken 0 (clean_places m)) (places (nat_le ((space_of m).index + index_lebs m.geo (dirty_count m.index.places)) (2 * index_lebs m.geo (space_of m).weight)) can.count),
   omega arith,
   all_weaker (λ (bud : Bud). has_role kind.Bud m.lebs bud.lnum) (λ bud. has_role kind.Bud k.lebs bud.lnum) (λ bud h. kept kind.Bud refl bud.lnum h) (open_buds 0 m.ends)
@@ -132,26 +132,26 @@ start_taking m taken some can a count there = (
     of n (inr e) = or_right (has_role kind.Index k.lebs n) (is_among taken n) e
 
     places : (b : Bool) → length taken ≡ cond b (index_lebs m.geo (dirty_count m.index.places)) (index_lebs m.geo (node_count m.index.shape))
-        → list_all (λ (place : Place). has_role kind.Index m.lebs place.lnum || is_among taken place.lnum) (all_places m.geo taken 0 (cond (not b) (map (λ place. None) m.index.places) m.index.places)) ≡ true
+        → list_all (λ (place : IndexNodePlace). has_role kind.Index m.lebs place.lnum || is_among taken place.lnum) (all_places m.geo taken 0 (cond (not b) (map (λ place. None) m.index.places) m.index.places)) ≡ true
     places true e = places_taken m.geo taken (has_role kind.Index m.lebs) (dirty_count m.index.places) 0 m.index.places some e (omega arith) there
     places false e =
         places_taken m.geo taken (has_role kind.Index m.lebs) (node_count m.index.shape) 0 (map (λ place. None) m.index.places) some e (let all = all_dirty m.index.places in omega (arith, all, count)) (none_placed (has_role kind.Index m.lebs) m.index.places)
 
 -- ---- places of the committed index
 -- a node that stands at a place of the committed index stands in one of its LEBs
-stands_pass : (test : ℕ → Bool) (row : Shape) (place : Place) (rows : List Shape) (places : List Place) → StandsBelow row place rows (map Some places) → list_all (λ p. test p.lnum) places ≡ true → test place.lnum ≡ true
+stands_pass : (test : ℕ → Bool) (row : Shape) (place : IndexNodePlace) (rows : List Shape) (places : List IndexNodePlace) → StandsBelow row place rows (map Some places) → list_all (λ p. test p.lnum) places ≡ true → test place.lnum ≡ true
 stands_pass test row place [] places s h = absurd s
 stands_pass test row place (first ∷ rows) [] s h = absurd s
 stands_pass test row place (first ∷ rows) (p ∷ places) (inl (same, at)) h =
     let is : p ≡ place = cc in
-    subst (λ (q : Place). test q.lnum ≡ true) is (and_parts (test p.lnum) (list_all (λ p. test p.lnum) places) h).0
+    subst (λ (q : IndexNodePlace). test q.lnum ≡ true) is (and_parts (test p.lnum) (list_all (λ p. test p.lnum) places) h).0
 stands_pass test row place (first ∷ rows) (p ∷ places) (inr s) h = stands_pass test row place rows places s (and_parts (test p.lnum) (list_all (λ p. test p.lnum) places) h).1
 
-pub kept_pass : (test : ℕ → Bool) (shape : Shape) (old : List Place) (rows : List Shape) (places : List (Option Place)) → KeepPlaces (record { shape = shape; places = map Some old }) rows places → list_all (λ p. test p.lnum) old ≡ true
-    → list_all (λ o. option_map_or (λ (place : Place). test place.lnum) o true) places ≡ true
+pub kept_pass : (test : ℕ → Bool) (shape : Shape) (old : List IndexNodePlace) (rows : List Shape) (places : List (Option IndexNodePlace)) → KeepPlaces (record { shape = shape; places = map Some old }) rows places → list_all (λ p. test p.lnum) old ≡ true
+    → list_all (λ o. option_map_or (λ (place : IndexNodePlace). test place.lnum) o true) places ≡ true
 kept_pass test shape old [] [] k h = refl
 kept_pass test shape old [] (at ∷ places) k h = absurd k
 kept_pass test shape old (row ∷ rows) [] k h = absurd k
 kept_pass test shape old (row ∷ rows) (None ∷ places) k h = kept_pass test shape old rows places k h
 kept_pass test shape old (row ∷ rows) (Some place ∷ places) k h =
-    and_from (test place.lnum) (list_all (λ o. option_map_or (λ (place : Place). test place.lnum) o true) places) (stands_pass test row place (rows_of shape) old k.0 h) (kept_pass test shape old rows places k.1 h)
+    and_from (test place.lnum) (list_all (λ o. option_map_or (λ (place : IndexNodePlace). test place.lnum) o true) places) (stands_pass test row place (rows_of shape) old k.0 h) (kept_pass test shape old rows places k.1 h)

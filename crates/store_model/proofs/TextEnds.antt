@@ -9,12 +9,12 @@ use Rattle.ubifs_base.specs.declared.raw_geometry.RawGeometry.{RawGeometry}
 use Rattle.fs_model.specs.Cover.{round_8}
 use Rattle.leaf_map.specs.Kept.{Placed}
 use Rattle.store_model.specs.Events.{changed_end, end_at, moved_on, nodes_len}
-use Rattle.store_model.specs.Fits.{nodes_in}
-use Rattle.store_model.specs.Heads.{copies_of, counts_of, groups_of, with_group}
+use Rattle.store_model.specs.Fits.{nodes_of_groups}
+use Rattle.store_model.specs.Heads.{copies_of, head_counts, groups_of_head, with_head_group}
 use Rattle.store_model.specs.Invariant.{are_within, AreAtBuds, last_bud}
 use Rattle.store_model.specs.Legal.{are_distinct}
 use Rattle.store_model.specs.Store.{At, Bud, Carried, leaf, Leb, Store}
-use Rattle.store_model.specs.Texts.{AreWritten, ends_by, IsEnd, items_len, text_in}
+use Rattle.store_model.specs.Texts.{AreHeadsWritten, ends_by, IsEnd, items_len, text_in}
 use Rattle.store_model.proofs.LebRows.{all_weaker}
 use Rattle.store_model.proofs.PutGroups.{copies_put, groups_put, IsGrown}
 use Rattle.store_model.proofs.TextBuds.{Adds, bud_lnums, other_head}
@@ -112,12 +112,12 @@ within_at (n ∷ a) (k ∷ b) zero h = le n k (and_parts (nat_le n k) (are_withi
 within_at (n ∷ a) (k ∷ b) (suc i) h = within_at a b i (and_parts (nat_le n k) (are_within a b) h).1
 
 -- of a head no more groups are synced than it has
-pub counts_fit : (synced : List ℕ) (buds : List Bud) (i : ℕ) → are_within synced (counts_of buds) ≡ true → get_or synced (suc i) 0 ≤ length (groups_of (suc i) buds)
-counts_fit synced buds zero h = within_at synced (counts_of buds) 1 h
-counts_fit synced buds (suc zero) h = within_at synced (counts_of buds) 2 h
+pub counts_fit : (synced : List ℕ) (buds : List Bud) (i : ℕ) → are_within synced (head_counts buds) ≡ true → get_or synced (suc i) 0 ≤ length (groups_of_head (suc i) buds)
+counts_fit synced buds zero h = within_at synced (head_counts buds) 1 h
+counts_fit synced buds (suc zero) h = within_at synced (head_counts buds) 2 h
 counts_fit synced buds (suc (suc i)) h =
-    let none : get_or synced (suc (suc (suc i))) 0 ≤ get_or (counts_of buds) (suc (suc (suc i))) 0 = within_at synced (counts_of buds) (suc (suc (suc i))) h in
-    let zero_of : get_or (counts_of buds) (suc (suc (suc i))) 0 ≡ 0 = nothing i in
+    let none : get_or synced (suc (suc (suc i))) 0 ≤ get_or (head_counts buds) (suc (suc (suc i))) 0 = within_at synced (head_counts buds) (suc (suc (suc i))) h in
+    let zero_of : get_or (head_counts buds) (suc (suc (suc i))) 0 ≡ 0 = nothing i in
     omega (arith, none, zero_of)
   where
     nothing : (i : ℕ) → get_or {A = ℕ} [] i 0 ≡ 0
@@ -125,18 +125,18 @@ counts_fit synced buds (suc (suc i)) h =
     nothing (suc i) = refl
 
 -- a group behind them changes none that is synced
-pub synced_put : (synced : List ℕ) (buds : List Bud) (h : ℕ) (group : List Carried) (i : ℕ) → are_within synced (counts_of buds) ≡ true
-    → nodes_in (take (get_or synced (suc i) 0) (groups_of (suc i) (with_group h group buds))) ≡ nodes_in (take (get_or synced (suc i) 0) (groups_of (suc i) buds))
+pub synced_put : (synced : List ℕ) (buds : List Bud) (h : ℕ) (group : List Carried) (i : ℕ) → are_within synced (head_counts buds) ≡ true
+    → nodes_of_groups (take (get_or synced (suc i) 0) (groups_of_head (suc i) (with_head_group h group buds))) ≡ nodes_of_groups (take (get_or synced (suc i) 0) (groups_of_head (suc i) buds))
 synced_put synced buds h group i fits = by (groups_put (suc i) h group buds)
   where
-    by : IsGrown (groups_of (suc i) buds) group (groups_of (suc i) (with_group h group buds))
-        → nodes_in (take (get_or synced (suc i) 0) (groups_of (suc i) (with_group h group buds))) ≡ nodes_in (take (get_or synced (suc i) 0) (groups_of (suc i) buds))
-    by (inl same) = ap (λ (gs : List (List Carried)). nodes_in (take (get_or synced (suc i) 0) gs)) same
+    by : IsGrown (groups_of_head (suc i) buds) group (groups_of_head (suc i) (with_head_group h group buds))
+        → nodes_of_groups (take (get_or synced (suc i) 0) (groups_of_head (suc i) (with_head_group h group buds))) ≡ nodes_of_groups (take (get_or synced (suc i) 0) (groups_of_head (suc i) buds))
+    by (inl same) = ap (λ (gs : List (List Carried)). nodes_of_groups (take (get_or synced (suc i) 0) gs)) same
     by (inr more) =
-        ap (λ (gs : List (List Carried)). nodes_in (take (get_or synced (suc i) 0) gs)) more
-        ∙ ap nodes_in (take-append-le (get_or synced (suc i) 0) (groups_of (suc i) buds) (group ∷ []) (counts_fit synced buds i fits))
+        ap (λ (gs : List (List Carried)). nodes_of_groups (take (get_or synced (suc i) 0) gs)) more
+        ∙ ap nodes_of_groups (take-append-le (get_or synced (suc i) 0) (groups_of_head (suc i) buds) (group ∷ []) (counts_fit synced buds i fits))
 
-pub copies_synced : (synced : List ℕ) (buds : List Bud) (h : ℕ) (group : List Carried) → take (get_or synced 0 0) (copies_of (with_group h group buds)) ≡ take (get_or synced 0 0) (copies_of buds)
+pub copies_synced : (synced : List ℕ) (buds : List Bud) (h : ℕ) (group : List Carried) → take (get_or synced 0 0) (copies_of (with_head_group h group buds)) ≡ take (get_or synced 0 0) (copies_of buds)
 copies_synced synced buds h group = ap (λ (cs : List Placed). take (get_or synced 0 0) cs) (copies_put h group buds)
 
 -- ---- what is written
@@ -147,13 +147,13 @@ ends_later lnum low high p more h = by (p.lnum == lnum) (p.offs + round_8 p.len)
     by true end h = grind (arith, more, h)
     by false end h = refl
 
-pub same_written : (old new : ℕ → List Placed) (n : ℕ) (ends : List (Option At)) → ((i : ℕ) → new i ≡ old i) → AreWritten old n ends → AreWritten new n ends
+pub same_written : (old new : ℕ → List Placed) (n : ℕ) (ends : List (Option At)) → ((i : ℕ) → new i ≡ old i) → AreHeadsWritten old n ends → AreHeadsWritten new n ends
 same_written old new n [] same w = tt
 same_written old new n (None ∷ ends) same w = same_written old new (n + 1) ends same w
 same_written old new n (Some at ∷ ends) same w = (ap (λ (ns : List Placed). list_all (ends_by at.lnum at.written) ns) (same n) ∙ w.0, same_written old new (n + 1) ends same w.1)
 
-pub written_grows : (m : Store) (old new : ℕ → List Placed) (n j bytes : ℕ) (ends : List (Option At)) → 0 < m.geo.min_io → ((i : ℕ) → new i ≡ old i) → AllByRecursion (IsEnd m.geo m.lebs) ends → AreWritten old n ends
-    → AreWritten new n (changed_end j (option_map (moved_on m.geo bytes)) ends)
+pub written_grows : (m : Store) (old new : ℕ → List Placed) (n j bytes : ℕ) (ends : List (Option At)) → 0 < m.geo.min_io → ((i : ℕ) → new i ≡ old i) → AllByRecursion (IsEnd m.geo m.lebs) ends → AreHeadsWritten old n ends
+    → AreHeadsWritten new n (changed_end j (option_map (moved_on m.geo bytes)) ends)
 written_grows m old new n j bytes [] some same all w = tt
 written_grows m old new n zero bytes (None ∷ ends) some same all w = same_written old new (n + 1) ends same w
 written_grows m old new n zero bytes (Some at ∷ ends) some same all w = (

@@ -8,13 +8,13 @@ use Rattle.std.proofs.Math.Nat.{zero-div}
 use Rattle.media_lpt.specs.declared.leb_kind.LebKind.TheVariants as kind
 use Rattle.fs_model.specs.Cover.{round_8}
 use Rattle.leaf_map.specs.Kept.{Placed}
-use Rattle.store_model.specs.Events.{changed_end, end_at, in_next, last_gap, new_bud, open_leb, padded}
-use Rattle.store_model.specs.Fits.{nodes_in}
-use Rattle.store_model.specs.Invariant.{AreApart, IsTaking}
+use Rattle.store_model.specs.Events.{changed_end, end_at, in_next, last_gap, new_bud, open_leb, padded_head}
+use Rattle.store_model.specs.Fits.{nodes_of_groups}
+use Rattle.store_model.specs.Invariant.{AreRolesApart, IsTaking}
 use Rattle.store_model.specs.Lebs.{changed_leb, has_role}
 use Rattle.store_model.specs.Legal.{are_distinct}
 use Rattle.store_model.specs.Store.{At, Bud, Carried, Leb, Next, Store}
-use Rattle.store_model.specs.Texts.{AreBudsIn, AreNextBudsIn, AreTexts, AreWritten, bud_nodes, ends_by, IsBudIn, IsEnd, IsLaidOut, items_len, synced_nodes, text_in}
+use Rattle.store_model.specs.Texts.{AreBudsIn, AreNextBudsIn, AreTexts, AreHeadsWritten, bud_nodes, ends_by, IsBudIn, IsEnd, IsLaidOut, items_len, synced_nodes, text_in}
 use Rattle.store_model.proofs.LebPuts.{end_bud, last_passes, other_leb}
 use Rattle.store_model.proofs.LebRows.{all_weaker, AreRows, has_row, role_row, rows, to_rows}
 use Rattle.store_model.proofs.Opens.{copies_open, groups_open}
@@ -57,8 +57,8 @@ new_in lebs head lnum none = record { nodes = rw none (by (head == 0)); from = o
     by false = refl
 
 -- ---- ends
-written_change : (nodes : ℕ → List Placed) (n j head : ℕ) (at : At) (ends : List (Option At)) → head ≡ n + j → list_all (ends_by at.lnum at.written) (nodes head) ≡ true → AreWritten nodes n ends
-    → AreWritten nodes n (changed_end j (λ old. Some at) ends)
+written_change : (nodes : ℕ → List Placed) (n j head : ℕ) (at : At) (ends : List (Option At)) → head ≡ n + j → list_all (ends_by at.lnum at.written) (nodes head) ≡ true → AreHeadsWritten nodes n ends
+    → AreHeadsWritten nodes n (changed_end j (λ old. Some at) ends)
 written_change nodes n j head at [] same one w = tt
 written_change nodes n zero head at (None ∷ ends) same one w = let is : head ≡ n = omega (arith, same) in (subst (λ (i : ℕ). list_all (ends_by at.lnum at.written) (nodes i) ≡ true) is one, w)
 written_change nodes n zero head at (Some old ∷ ends) same one w = let is : head ≡ n = omega (arith, same) in (subst (λ (i : ℕ). list_all (ends_by at.lnum at.written) (nodes i) ≡ true) is one, w.1)
@@ -72,7 +72,7 @@ elsewhere lnum other end p away h =
     rw (subst (λ (n : ℕ). (n == lnum) ≡ false) (sym there) (turned lnum other away)) refl
 
 -- ---- the event
-pub open_texts : (m : Store) (head lnum : ℕ) → has_role kind.Free m.lebs lnum ≡ true → 0 < m.geo.min_io → m.geo.leb_size % m.geo.min_io ≡ 0 → AreApart m → IsTaking m m.next → AreTexts m → AreTexts (open_leb head lnum m)
+pub open_texts : (m : Store) (head lnum : ℕ) → has_role kind.Free m.lebs lnum ≡ true → 0 < m.geo.min_io → m.geo.leb_size % m.geo.min_io ≡ 0 → AreRolesApart m → IsTaking m m.next → AreTexts m → AreTexts (open_leb head lnum m)
 open_texts m head lnum empty some whole a taking t = record {
   laid = all_changed (IsLaidOut m.geo) lnum opened before (λ leb same text laid. record { places = refl; fits = omega arith }) (numbers (end_at m.ends head))
       (padded_laid m.geo m.lebs (end_at m.ends head) some whole a.numbers (end_is (end_at m.ends head) refl) t.laid);
@@ -87,7 +87,7 @@ open_texts m head lnum empty some whole a taking t = record {
     fresh = record { lnum = lnum; offs = 0; written = 0 }
 
     before : List Leb
-    before = padded m.geo m.lebs (end_at m.ends head)
+    before = padded_head m.geo m.lebs (end_at m.ends head)
 
     new : List Leb
     new = changed_leb lnum opened before
@@ -98,7 +98,7 @@ open_texts m head lnum empty some whole a taking t = record {
     free : has_row kind.Free (rows m.lebs) lnum ≡ true
     free = sym (role_row kind.Free m.lebs lnum) ∙ empty
 
-    numbers : (at : Option At) → are_distinct (lnums (padded m.geo m.lebs at)) ≡ true
+    numbers : (at : Option At) → are_distinct (lnums (padded_head m.geo m.lebs at)) ≡ true
     numbers None = a.numbers
     numbers (Some at) = ap are_distinct (same_lnums at.lnum (λ leb. record leb { text = leb.text ++ last_gap m.geo at }) (λ leb. refl) m.lebs) ∙ a.numbers
 
@@ -114,7 +114,7 @@ open_texts m head lnum empty some whole a taking t = record {
 
     same : (i : ℕ) → synced_nodes m.synced (m.now.buds ++ new_bud head lnum 0 ∷ []) i ≡ synced_nodes m.synced m.now.buds i
     same zero = ap (λ (cs : List Placed). take (get_or m.synced 0 0) cs) (copies_open head lnum m.now.buds)
-    same (suc i) = ap (λ (gs : List (List Carried)). nodes_in (take (get_or m.synced (suc i) 0) gs)) (groups_open (suc i) head lnum m.now.buds)
+    same (suc i) = ap (λ (gs : List (List Carried)). nodes_of_groups (take (get_or m.synced (suc i) 0) gs)) (groups_open (suc i) head lnum m.now.buds)
 
     -- the LEB was none of the buds'
     bud_others : (buds : List Bud) → list_all (λ bud. has_row kind.Bud (rows m.lebs) bud.lnum) buds ≡ true → list_all (λ bud. not (lnum == bud.lnum)) buds ≡ true
@@ -149,7 +149,7 @@ open_texts m head lnum empty some whole a taking t = record {
         let bud : has_row kind.Bud (rows m.lebs) l ≡ true = last_passes (has_row kind.Bud (rows m.lebs)) i l m.now.buds r.buds e in
         text_other lnum l opened (λ leb. refl) (other_leb (rows m.lebs) lnum l kind.Free kind.Bud r.numbers free bud refl) before ∙ apart (end_at m.ends head) refl
       where
-        apart : (at : Option At) → end_at m.ends head ≡ at → text_in (padded m.geo m.lebs at) l ≡ text_in m.lebs l
+        apart : (at : Option At) → end_at m.ends head ≡ at → text_in (padded_head m.geo m.lebs at) l ≡ text_in m.lebs l
         apart None at = refl
         apart (Some at) at_is =
             let last = end_bud m.now.buds 0 head head m.ends at (omega arith) a.ends at_is in

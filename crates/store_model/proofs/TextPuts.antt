@@ -8,10 +8,10 @@ use Rattle.std.proofs.lemmas.Grind.{flat_map-append}
 use Rattle.leaf_map.specs.Kept.{Placed}
 use Rattle.media_lpt.specs.declared.leb_kind.LebKind.TheVariants as kind
 use Rattle.store_model.specs.Events.{after_part, credit, end_at, granted, in_next, nodes_len, paid, Part, Payment, put, Putting, with_items}
-use Rattle.store_model.specs.Fits.{nodes_in}
-use Rattle.store_model.specs.Heads.{with_group}
-use Rattle.store_model.specs.Invariant.{AreApart, HasNumbers, HasSince, last_bud}
-use Rattle.store_model.specs.Legal.{AreParts, FitHead, IsPart, StandFrom}
+use Rattle.store_model.specs.Fits.{nodes_of_groups}
+use Rattle.store_model.specs.Heads.{with_head_group}
+use Rattle.store_model.specs.Invariant.{AreRolesApart, HasNumbers, HasSince, last_bud}
+use Rattle.store_model.specs.Legal.{AreLegalParts, FitHead, IsLegalPart, StandFrom}
 use Rattle.store_model.specs.Store.{At, Bud, Carried, leaf, Leb, Next, Store}
 use Rattle.store_model.specs.Texts.{AreNextBudsIn, AreTexts, bud_nodes, IsLaidOut, items_len, synced_nodes, text_in}
 use Rattle.store_model.proofs.LebPuts.{end_bud, head_role, part_apart}
@@ -33,7 +33,7 @@ stand_behind low lnum offs [] more s = refl
 stand_behind low lnum offs (p ∷ nodes) more s =
     and_from (nat_le low p.offs) (list_all (λ p. nat_le low p.offs) nodes) (reaches low offs p.offs more s.1) (stand_behind low lnum (offs + nodes_len (p ∷ [])) nodes (further low offs (nodes_len (p ∷ [])) more) s.3)
 
-pub adds_items : (m : Store) (head : ℕ) (at : At) (nodes : List Placed) → AreApart m → AreTexts m → end_at m.ends head ≡ Some at → StandFrom at.lnum at.offs nodes
+pub adds_items : (m : Store) (head : ℕ) (at : At) (nodes : List Placed) → AreRolesApart m → AreTexts m → end_at m.ends head ≡ Some at → StandFrom at.lnum at.offs nodes
     → Adds m.lebs (with_items at.lnum (map leaf nodes) m.lebs) at.lnum nodes
 adds_items m head at nodes a t e stand =
     let off = (end_of m.geo m.lebs head m.ends at t.ends e).0 in
@@ -43,7 +43,7 @@ adds_items m head at nodes a t e stand =
       behind = stand_behind (items_len (text_in m.lebs at.lnum)) at.lnum at.offs nodes (omega (arith, off)) stand;
     }
 
-pub laid_items : (m : Store) (head : ℕ) (at : At) (nodes : List Placed) → AreApart m → AreTexts m → end_at m.ends head ≡ Some at → StandFrom at.lnum at.offs nodes → at.offs + nodes_len nodes ≤ m.geo.leb_size
+pub laid_items : (m : Store) (head : ℕ) (at : At) (nodes : List Placed) → AreRolesApart m → AreTexts m → end_at m.ends head ≡ Some at → StandFrom at.lnum at.offs nodes → at.offs + nodes_len nodes ≤ m.geo.leb_size
     → AllByRecursion (IsLaidOut m.geo) (with_items at.lnum (map leaf nodes) m.lebs)
 laid_items m head at nodes a t e stand room = all_changed (IsLaidOut m.geo) at.lnum (λ leb. record leb { text = leb.text ++ map leaf nodes }) m.lebs one a.numbers t.laid
   where
@@ -60,10 +60,10 @@ laid_items m head at nodes a t e stand room = all_changed (IsLaidOut m.geo) at.l
         fits = let long = len_map nodes in omega (arith, room, off, long)
 
 -- ---- a group
-nodes_more : (groups : List (List Carried)) (group : List Carried) → nodes_in (groups ++ group ∷ []) ≡ nodes_in groups ++ map (λ c. c.placed) group
+nodes_more : (groups : List (List Carried)) (group : List Carried) → nodes_of_groups (groups ++ group ∷ []) ≡ nodes_of_groups groups ++ map (λ c. c.placed) group
 nodes_more groups group =
     flat_map-append (λ (g : List Carried). map (λ c. c.placed) g) groups (group ∷ [])
-    ∙ ap (λ (ns : List Placed). nodes_in groups ++ ns) (append-nil (map (λ c. c.placed) group))
+    ∙ ap (λ (ns : List Placed). nodes_of_groups groups ++ ns) (append-nil (map (λ c. c.placed) group))
 
 group_puts : (head : ℕ) (group : List Carried) → (head ≡ 1) ⊎ (head ≡ 2) → PutsTo head (λ bud. record bud { groups = bud.groups ++ group ∷ [] }) (map (λ c. c.placed) group)
 group_puts head group is = record { lnum = λ bud. refl; from = λ bud. refl; more = λ bud mine. more bud (eqb-true bud.head head mine) is }
@@ -74,13 +74,13 @@ group_puts head group is = record { lnum = λ bud. refl; from = λ bud. refl; mo
 
 next_buds : (m : Store) (part : Part) (at : At) (next : Option Next) → (part.head ≡ 1) ⊎ (part.head ≡ 2) → end_at m.ends part.head ≡ Some at → Adds m.lebs (after_part m part).lebs at.lnum (map (λ c. c.placed) part.group)
     → HasSince m next → AreNextBudsIn m.lebs next
-    → AreNextBudsIn (after_part m part).lebs (option_map (in_next (with_group part.head part.group) (length part.group)) next)
+    → AreNextBudsIn (after_part m part).lebs (option_map (in_next (with_head_group part.head part.group) (length part.group)) next)
 next_buds m part at None is e adds since b = tt
 next_buds m part at (Some next) is e adds since b =
     all_grow m.lebs (after_part m part).lebs part.head at.lnum (λ bud. record bud { groups = bud.groups ++ part.group ∷ [] }) (map (λ c. c.placed) part.group) next.view.buds adds (group_puts part.head part.group is)
     (end_bud next.view.buds 0 part.head part.head m.ends at (omega arith) since.ends e) b
 
-pub part_texts : (m : Store) (part : Part) → IsPart m part → 0 < m.geo.min_io → AreApart m → HasSince m m.next → HasNumbers m → AreTexts m → AreTexts (after_part m part)
+pub part_texts : (m : Store) (part : Part) → IsLegalPart m part → 0 < m.geo.min_io → AreRolesApart m → HasSince m m.next → HasNumbers m → AreTexts m → AreTexts (after_part m part)
 part_texts m part is some a since n t = by (end_at m.ends part.head) refl is.fits
   where
     k : Store
@@ -112,12 +112,12 @@ part_texts m part is some a since n t = by (end_at m.ends part.head) refl is.fit
         last : last_bud m.now.buds part.head ≡ Some at.lnum
         last = end_bud m.now.buds 0 part.head part.head m.ends at (omega arith) a.ends e
 
-parts_texts : (parts : List Part) (m : Store) → AreParts m parts → 0 < m.geo.min_io → AreApart m → HasSince m m.next → HasNumbers m → AreTexts m → AreTexts (fold after_part m parts)
+parts_texts : (parts : List Part) (m : Store) → AreLegalParts m parts → 0 < m.geo.min_io → AreRolesApart m → HasSince m m.next → HasNumbers m → AreTexts m → AreTexts (fold after_part m parts)
 parts_texts [] m are some a since n t = t
 parts_texts (part ∷ parts) m are some a since n t =
     parts_texts parts (after_part m part) are.1 some (part_apart m part are.0 a) (part_since m part are.0 a since) (part_numbers m part are.0.head are.0.numbers n) (part_texts m part are.0 some a since n t)
 
-pub put_texts : (m : Store) (p : Putting) → AreParts m p.parts → 0 < m.geo.min_io → AreApart m → HasSince m m.next → HasNumbers m → AreTexts m → AreTexts (put p m)
+pub put_texts : (m : Store) (p : Putting) → AreLegalParts m p.parts → 0 < m.geo.min_io → AreRolesApart m → HasSince m m.next → HasNumbers m → AreTexts m → AreTexts (put p m)
 put_texts m p are some a since n t = by p.payment (parts_texts p.parts m are some a since n t)
   where
     end : Store

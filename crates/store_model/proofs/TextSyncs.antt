@@ -8,13 +8,13 @@ use Rattle.media_lpt.specs.declared.leb_kind.LebKind.TheVariants as kind
 use Rattle.ubifs_base.specs.declared.raw_geometry.RawGeometry.{RawGeometry}
 use Rattle.fs_model.specs.Cover.{round_8}
 use Rattle.leaf_map.specs.Kept.{Placed}
-use Rattle.store_model.specs.Events.{drop_inode, filled_up, last_gap, padded, sync, whole_units}
-use Rattle.store_model.specs.Heads.{counts_of}
-use Rattle.store_model.specs.Invariant.{AreApart, AreAtBuds, IsTaking, last_bud}
+use Rattle.store_model.specs.Events.{drop_inode, filled_up, last_gap, padded_head, sync, whole_store_units}
+use Rattle.store_model.specs.Heads.{head_counts}
+use Rattle.store_model.specs.Invariant.{AreRolesApart, AreAtBuds, IsTaking, last_bud}
 use Rattle.store_model.specs.Lebs.{freed, has_role}
 use Rattle.store_model.specs.Legal.{are_distinct}
-use Rattle.store_model.specs.Store.{At, Bud, Index, Leb, Next, Store}
-use Rattle.store_model.specs.Texts.{AreBudsIn, AreNextBudsIn, AreTexts, AreWritten, bud_nodes, ends_by, IsBudIn, IsEnd, IsLaidOut, items_len, synced_nodes, text_in}
+use Rattle.store_model.specs.Store.{At, Bud, StoreIndex, Leb, Next, Store}
+use Rattle.store_model.specs.Texts.{AreBudsIn, AreNextBudsIn, AreTexts, AreHeadsWritten, bud_nodes, ends_by, IsBudIn, IsEnd, IsLaidOut, items_len, synced_nodes, text_in}
 use Rattle.store_model.proofs.LebDrops.{dropped_store}
 use Rattle.store_model.proofs.LebFrees.{all_padded, filled_ends, synced_store}
 use Rattle.store_model.proofs.LebPuts.{last_passes}
@@ -51,7 +51,7 @@ pub next_role : (m : Store) (next : Next) → IsTaking m (Some next) → list_al
 next_role m next taking = all_weaker (λ (bud : Bud). has_role kind.Bud m.lebs bud.lnum) (λ bud. has_row kind.Bud (rows m.lebs) bud.lnum) (λ bud h. sym (role_row kind.Bud m.lebs bud.lnum) ∙ h) next.view.buds taking.3
 
 -- ---- an inode that is dropped
-pub drop_texts : (m : Store) (ino : ℕ) (index : Index) → AreApart m → IsTaking m m.next → AreTexts m → AreTexts (drop_inode ino index m)
+pub drop_texts : (m : Store) (ino : ℕ) (index : StoreIndex) → AreRolesApart m → IsTaking m m.next → AreTexts m → AreTexts (drop_inode ino index m)
 drop_texts m ino index a taking t = record {
   laid = freed_laid k m.lebs t.laid;
   buds = freed_buds k m.lebs m.now.buds r.numbers r.buds t.buds;
@@ -73,19 +73,19 @@ drop_texts m ino index a taking t = record {
 -- ---- a sync
 -- padding other heads' LEBs leaves this one
 padded_away : (geo : RawGeometry) (buds : List Bud) (n head lnum : ℕ) (lebs : List Leb) (ends : List (Option At)) → are_distinct (bud_lnums buds) ≡ true → head < n → last_bud buds head ≡ Some lnum → AreAtBuds buds n ends
-    → text_in (fold (padded geo) lebs ends) lnum ≡ text_in lebs lnum
+    → text_in (fold (padded_head geo) lebs ends) lnum ≡ text_in lebs lnum
 padded_away geo buds n head lnum lebs [] d past last are = refl
 padded_away geo buds n head lnum lebs (None ∷ ends) d past last are = padded_away geo buds (n + 1) head lnum lebs ends d (omega (arith, past)) last are
 padded_away geo buds n head lnum lebs (Some at ∷ ends) d past last are =
-    padded_away geo buds (n + 1) head lnum (padded geo lebs (Some at)) ends d (omega (arith, past)) last are.1
+    padded_away geo buds (n + 1) head lnum (padded_head geo lebs (Some at)) ends d (omega (arith, past)) last are.1
     ∙ text_other at.lnum lnum (λ leb. record leb { text = leb.text ++ last_gap geo at }) (λ leb. refl) (other_head n head at.lnum lnum buds d (high_other head n past) are.0 last) lebs
   where
     high_other : (head n : ℕ) → head < n → (n == head) ≡ false
     high_other head n h = grind (arith)
 
 record ArePadded (geo : RawGeometry) (lebs : List Leb) (ends : List (Option At)) : Type 0 where
-  laid : AllByRecursion (IsLaidOut geo) (fold (padded geo) lebs ends)
-  ends_are : AllByRecursion (IsEnd geo (fold (padded geo) lebs ends)) (map (option_map (filled_up geo)) ends)
+  laid : AllByRecursion (IsLaidOut geo) (fold (padded_head geo) lebs ends)
+  ends_are : AllByRecursion (IsEnd geo (fold (padded_head geo) lebs ends)) (map (option_map (filled_up geo)) ends)
 
 all_padded_laid : (geo : RawGeometry) (rs : List Row) (buds : List Bud) (n : ℕ) (lebs : List Leb) (ends : List (Option At)) → 0 < geo.min_io → geo.leb_size % geo.min_io ≡ 0 → rows lebs ≡ rs → are_distinct (lnums lebs) ≡ true
     → list_all (λ bud. has_row kind.Bud rs bud.lnum) buds ≡ true → are_distinct (bud_lnums buds) ≡ true → AreAtBuds buds n ends → AllByRecursion (IsEnd geo lebs) ends → AllByRecursion (IsLaidOut geo) lebs
@@ -100,7 +100,7 @@ all_padded_laid geo rs buds n lebs (Some at ∷ ends) some whole same d h e are 
     record { laid = rest.laid; ends_are = ((off, whole_whole geo at.offs some), rest.ends_are) }
   where
     new : List Leb
-    new = padded geo lebs (Some at)
+    new = padded_head geo lebs (Some at)
 
     padded_same : rows new ≡ rows lebs
     padded_same = all_padded geo lebs (Some at ∷ [])
@@ -111,7 +111,7 @@ all_padded_laid geo rs buds n lebs (Some at ∷ ends) some whole same d h e are 
     bud : has_row kind.Bud (rows lebs) at.lnum ≡ true
     bud = subst (λ (z : List Row). has_row kind.Bud z at.lnum ≡ true) (sym same) (last_passes (has_row kind.Bud rs) n at.lnum buds h are.0)
 
-    off : whole_units geo at.offs ≡ items_len (text_in (fold (padded geo) lebs (Some at ∷ ends)) at.lnum)
+    off : whole_store_units geo at.offs ≡ items_len (text_in (fold (padded_head geo) lebs (Some at ∷ ends)) at.lnum)
     off =
         sym (gap_len geo at some)
         ∙ ap (λ (k : ℕ). k + items_len (last_gap geo at)) all.0.0
@@ -133,43 +133,43 @@ ends_whole lnum other end whole p low h =
     by false e same h = rw (same ∙ e) refl
 
 buds_written : (geo : RawGeometry) (lebs : List Leb) (at : At) (buds : List Bud) → 0 < geo.min_io → AllByRecursion (IsLaidOut geo) lebs → IsEnd geo lebs (Some at) → AllByRecursion (IsBudIn lebs) buds
-    → AllByRecursion (λ bud. list_all (ends_by at.lnum (whole_units geo at.offs)) (bud_nodes bud) ≡ true) buds
+    → AllByRecursion (λ bud. list_all (ends_by at.lnum (whole_store_units geo at.offs)) (bud_nodes bud) ≡ true) buds
 buds_written geo lebs at [] some laid e b = tt
 buds_written geo lebs at (bud ∷ buds) some laid e b = (
-  all_weaker (λ (p : Placed). (p.lnum == bud.lnum) && nat_le (p.offs + round_8 p.len) (items_len (text_in lebs bud.lnum))) (ends_by at.lnum (whole_units geo at.offs))
-      (λ p h. ends_whole at.lnum bud.lnum (items_len (text_in lebs bud.lnum)) (whole_units geo at.offs) p low h) (bud_nodes bud) (bud_ends geo lebs bud laid b.0),
+  all_weaker (λ (p : Placed). (p.lnum == bud.lnum) && nat_le (p.offs + round_8 p.len) (items_len (text_in lebs bud.lnum))) (ends_by at.lnum (whole_store_units geo at.offs))
+      (λ p h. ends_whole at.lnum bud.lnum (items_len (text_in lebs bud.lnum)) (whole_store_units geo at.offs) p low h) (bud_nodes bud) (bud_ends geo lebs bud laid b.0),
   buds_written geo lebs at buds some laid e b.1,
 )
   where
-    low : (bud.lnum == at.lnum) ≡ true → items_len (text_in lebs bud.lnum) ≤ whole_units geo at.offs
+    low : (bud.lnum == at.lnum) ≡ true → items_len (text_in lebs bud.lnum) ≤ whole_store_units geo at.offs
     low same =
         let is : items_len (text_in lebs bud.lnum) ≡ at.offs = ap (λ (n : ℕ). items_len (text_in lebs n)) (eqb-true bud.lnum at.lnum same) ∙ sym e.0 in
         let covers = whole_covers geo at.offs some in
         omega (arith, is, covers)
 
 all_written : (geo : RawGeometry) (lebs : List Leb) (synced : List ℕ) (buds : List Bud) (n : ℕ) (ends : List (Option At)) → 0 < geo.min_io → AllByRecursion (IsLaidOut geo) lebs → AllByRecursion (IsBudIn lebs) buds
-    → AllByRecursion (IsEnd geo lebs) ends → AreWritten (synced_nodes synced buds) n (map (option_map (filled_up geo)) ends)
+    → AllByRecursion (IsEnd geo lebs) ends → AreHeadsWritten (synced_nodes synced buds) n (map (option_map (filled_up geo)) ends)
 all_written geo lebs synced buds n [] some laid b all = tt
 all_written geo lebs synced buds n (None ∷ ends) some laid b all = all_written geo lebs synced buds (n + 1) ends some laid b all.1
 all_written geo lebs synced buds n (Some at ∷ ends) some laid b all = (
-  synced_pass (ends_by at.lnum (whole_units geo at.offs)) synced buds n (buds_written geo lebs at buds some laid all.0 b),
+  synced_pass (ends_by at.lnum (whole_store_units geo at.offs)) synced buds n (buds_written geo lebs at buds some laid all.0 b),
   all_written geo lebs synced buds (n + 1) ends some laid b all.1,
 )
 
-pub sync_texts : (m : Store) → 0 < m.geo.min_io → m.geo.leb_size % m.geo.min_io ≡ 0 → AreApart m → IsTaking m m.next → AreTexts m → AreTexts (sync m)
+pub sync_texts : (m : Store) → 0 < m.geo.min_io → m.geo.leb_size % m.geo.min_io ≡ 0 → AreRolesApart m → IsTaking m m.next → AreTexts m → AreTexts (sync m)
 sync_texts m some whole a taking t = record {
   laid = freed_laid k lebs filled.laid;
   buds = freed_buds k lebs m.now.buds numbers buds_are (padded_buds m.now.buds t.buds);
   later = later m.next taking t.later;
   ends = freed_ends k m.geo lebs m.now.buds 0 k.ends numbers buds_are (filled_ends m.geo m.now.buds 0 m.ends a.ends) filled.ends_are;
-  written = all_written m.geo m.lebs (counts_of m.now.buds) m.now.buds 0 m.ends some t.laid t.buds.each t.ends;
+  written = all_written m.geo m.lebs (head_counts m.now.buds) m.now.buds 0 m.ends some t.laid t.buds.each t.ends;
 }
   where
     k : Store
     k = synced_store m
 
     lebs : List Leb
-    lebs = fold (padded m.geo) m.lebs m.ends
+    lebs = fold (padded_head m.geo) m.lebs m.ends
 
     r : AreRows m (rows m.lebs)
     r = to_rows m a

@@ -7,8 +7,8 @@ use Rattle.media_leaf.specs.LeafNode.{IsLeaf}
 use Rattle.index_tree.specs.Distinct.{AreDistinct}
 use Rattle.leaf_map.specs.Kept.{Kept, Placed}
 use Rattle.store_model.specs.Events.{begin, Copying, end_commit, free_victim, in_next, move, offer, offered, open_buds, start, with_buds, write_index}
-use Rattle.store_model.specs.Heads.{buds_of, copies_of, has_bud, with_copy}
-use Rattle.store_model.specs.Invariant.{AreCarried, AreOwned, HasCommitted, HasFiles, HasViews, IsCopyOf, OfBoth, OfNext, all_carried}
+use Rattle.store_model.specs.Heads.{buds_of_head, copies_of, has_bud, with_copy}
+use Rattle.store_model.specs.Invariant.{AreChangesCarried, AreOwned, HasCommittedView, HasFiles, HasViews, IsCopyOf, OfBoth, OfNext, all_carried}
 use Rattle.store_model.specs.Legal.{CanMove, IsCarried, IsLeafOf}
 use Rattle.store_model.specs.Store.{At, Bud, Carried, Moving, Next, Store, View}
 use Rattle.store_model.proofs.Owned.{highest_is}
@@ -26,12 +26,12 @@ free_views m (Some moving) v = same_views m (free_victim m (Some moving)) refl r
 pub write_views : (m : Store) (next : Option Next) → m.next ≡ next → HasViews m → HasViews (write_index m next)
 write_views m None e v = v
 write_views m (Some next) e v = record {
-  committed = (v.committed.0, subst (λ (o : Option Next). OfNext m o (λ f. HasCommitted f.view)) e v.committed.1);
-  carried = (v.carried.0, subst (λ (o : Option Next). OfNext m o (λ f. AreCarried f.view)) e v.carried.1);
+  committed = (v.committed.0, subst (λ (o : Option Next). OfNext m o (λ f. HasCommittedView f.view)) e v.committed.1);
+  carried = (v.carried.0, subst (λ (o : Option Next). OfNext m o (λ f. AreChangesCarried f.view)) e v.carried.1);
 }
 
 pub offer_views : (m : Store) → HasViews m → HasViews (offer m)
-offer_views m v = record { committed = (v.committed.0, of HasCommitted m.next v.committed.1); carried = (v.carried.0, of AreCarried m.next v.carried.1) }
+offer_views m v = record { committed = (v.committed.0, of HasCommittedView m.next v.committed.1); carried = (v.carried.0, of AreChangesCarried m.next v.carried.1) }
   where
     of : (P : View → Type 0) (next : Option Next) → OfNext m next (λ f. P f.view) → OfNext (offer m) (option_map offered next) (λ f. P f.view)
     of P None h = tt
@@ -41,8 +41,8 @@ offer_views m v = record { committed = (v.committed.0, of HasCommitted m.next v.
 pub end_views : (m : Store) (next : Option Next) → m.next ≡ next → HasViews m → HasViews (end_commit m next)
 end_views m None e v = v
 end_views m (Some next) e v = record {
-  committed = (subst (λ (o : Option Next). OfNext m o (λ f. HasCommitted f.view)) e v.committed.1, tt);
-  carried = (subst (λ (o : Option Next). OfNext m o (λ f. AreCarried f.view)) e v.carried.1, tt);
+  committed = (subst (λ (o : Option Next). OfNext m o (λ f. HasCommittedView f.view)) e v.committed.1, tt);
+  carried = (subst (λ (o : Option Next). OfNext m o (λ f. AreChangesCarried f.view)) e v.carried.1, tt);
 }
 
 none_carried : (k : ℕ) (ends : List (Option At)) → AllByRecursion IsCarried (all_carried (open_buds k ends))
@@ -68,7 +68,7 @@ copied_copies P copy (bud ∷ buds) p h = by (λ more. copied_copies P copy buds
     More : Type 0
     More = AllByRecursion P (copies_of buds) → AllByRecursion P (copies_of (with_copy copy buds))
 
-    by : More → (last : Bool) → ((bud.head == 0) && not (has_bud 0 buds)) ≡ last → (here : Bool) → (bud.head == 0) ≡ here → AllByRecursion P (flat_map (λ b. b.copies) (cond here (bud ∷ buds_of 0 buds) (buds_of 0 buds)))
+    by : More → (last : Bool) → ((bud.head == 0) && not (has_bud 0 buds)) ≡ last → (here : Bool) → (bud.head == 0) ≡ here → AllByRecursion P (flat_map (λ b. b.copies) (cond here (bud ∷ buds_of_head 0 buds) (buds_of_head 0 buds)))
         → AllByRecursion P (copies_of (with_copy copy (bud ∷ buds)))
     by more true l true i h = let parts = both_parts P bud.copies (copies_of buds) h in rw (l, i) (both_join P (bud.copies ++ copy ∷ []) (copies_of buds) (both_join P bud.copies (copy ∷ []) parts.0 (p, tt)) parts.1)
     by more true l false i h = rw (l, i) h
@@ -95,7 +95,7 @@ copy_among [] c node number i = absurd i
 copy_among (x ∷ kept) c node number (inl e) = inl (node ∙ ap (λ (z : Kept). z.node) (sym e), number ∙ ap (λ (z : Kept). z.sqnum) (sym e))
 copy_among (x ∷ kept) c node number (inr i) = inr (copy_among kept c node number i)
 
-copied_view : (c : Copying) (view : View) → IsLeaf c.copy.node → IsCopyOf view.kept c.copy → HasCommitted view → HasCommitted (with_buds (with_copy c.copy) 0 view)
+copied_view : (c : Copying) (view : View) → IsLeaf c.copy.node → IsCopyOf view.kept c.copy → HasCommittedView view → HasCommittedView (with_buds (with_copy c.copy) 0 view)
 copied_view c view leaf among has = record {
   leaves = has.leaves;
   distinct = has.distinct;
@@ -115,10 +115,10 @@ move_views m c can owned among v = record {
     leaf : IsLeaf c.copy.node
     leaf = subst IsLeaf (sym can.node_is) (leaf_node m.live c.leaf owned.nodes can.live)
 
-    of : (next : Option Next) → OfNext m next (λ f. IsLeafOf f.view.kept c.leaf) → OfNext m next (λ f. HasCommitted f.view) → OfNext (move c m) (option_map (in_next (with_copy c.copy) 0) next) (λ f. HasCommitted f.view)
+    of : (next : Option Next) → OfNext m next (λ f. IsLeafOf f.view.kept c.leaf) → OfNext m next (λ f. HasCommittedView f.view) → OfNext (move c m) (option_map (in_next (with_copy c.copy) 0) next) (λ f. HasCommittedView f.view)
     of None a h = tt
     of (Some next) a h = copied_view c next.view leaf (copy_among next.view.kept c can.node_is can.sqnum a) h
 
-    too : (next : Option Next) → OfNext m next (λ f. AreCarried f.view) → OfNext (move c m) (option_map (in_next (with_copy c.copy) 0) next) (λ f. AreCarried f.view)
+    too : (next : Option Next) → OfNext m next (λ f. AreChangesCarried f.view) → OfNext (move c m) (option_map (in_next (with_copy c.copy) 0) next) (λ f. AreChangesCarried f.view)
     too None h = tt
     too (Some next) h = subst (AllByRecursion IsCarried) (sym (carried_copied c.copy next.view.buds)) h

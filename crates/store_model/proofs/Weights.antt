@@ -6,10 +6,10 @@ use Rattle.ubifs_base.specs.declared.raw_geometry.RawGeometry.{RawGeometry}
 use Rattle.index_tree.specs.Shape.{shape_weight}
 use Rattle.leaf_map.specs.Kept.{Placed}
 use Rattle.store_model.specs.Events.{after, after_part, Begin, credit, Drop, End, end_commit, Event, Free, free_victim, granted, in_next, Move, Offer, offered, Open, paid, Part, Payment, Put, put, Putting, Start, Sync, Write, write_index}
-use Rattle.store_model.specs.Heads.{with_group}
+use Rattle.store_model.specs.Heads.{with_head_group}
 use Rattle.store_model.specs.Invariant.{IsLight, IsStore, OfBoth, OfNext}
 use Rattle.store_model.specs.Lebs.{weight_of}
-use Rattle.store_model.specs.Legal.{IsLegalEvent, nodes_of}
+use Rattle.store_model.specs.Legal.{IsLegalEvent, nodes_of_parts}
 use Rattle.store_model.specs.Store.{Bud, Carried, Moving, Next, Store, View}
 use Rattle.store_model.proofs.BackingCalls.{length_map}
 
@@ -76,28 +76,28 @@ pub record ArePut (m k : Store) (n : ℕ) : Type 0 where
   pub now : IsPutTo n m.now k.now
   pub next : ArePutTo n m.next k.next
 
-pub parts_put : (parts : List Part) (m : Store) → ArePut m (fold after_part m parts) (length (nodes_of parts))
+pub parts_put : (parts : List Part) (m : Store) → ArePut m (fold after_part m parts) (length (nodes_of_parts parts))
 parts_put [] m = record { geo = refl; now = self m.now; next = selves m.next }
 parts_put (part ∷ parts) m =
     let k : Store = after_part m part in
     let last : Store = fold after_part k parts in
     let rest = parts_put parts k in
     let group : List Placed = map (λ c. c.placed) part.group in
-    let count : length part.group + length (nodes_of parts) ≡ length (nodes_of (part ∷ parts)) = let a = length-append group (nodes_of parts) in let b = length_map (λ (c : Carried). c.placed) part.group in omega (arith, a, b) in
+    let count : length part.group + length (nodes_of_parts parts) ≡ length (nodes_of_parts (part ∷ parts)) = let a = length-append group (nodes_of_parts parts) in let b = length_map (λ (c : Carried). c.placed) part.group in omega (arith, a, b) in
     record {
       geo = rest.geo;
-      now = subst (λ (n : ℕ). IsPutTo n m.now last.now) count (put_then (length part.group) (length (nodes_of parts)) m.now k.now last.now (record { shape = refl; places = refl; put = refl }) rest.now);
-      next = subst (λ (n : ℕ). ArePutTo n m.next last.next) count (all_then (length part.group) (length (nodes_of parts)) m.next k.next last.next (changed (with_group part.head part.group) (length part.group) m.next) rest.next);
+      now = subst (λ (n : ℕ). IsPutTo n m.now last.now) count (put_then (length part.group) (length (nodes_of_parts parts)) m.now k.now last.now (record { shape = refl; places = refl; put = refl }) rest.now);
+      next = subst (λ (n : ℕ). ArePutTo n m.next last.next) count (all_then (length part.group) (length (nodes_of_parts parts)) m.next k.next last.next (changed (with_head_group part.head part.group) (length part.group) m.next) rest.next);
     }
 
-put_light : (m : Store) (p : Putting) → shape_weight m.geo.fanout p.index.shape ≤ shape_weight m.geo.fanout m.index.shape + length (nodes_of p.parts) → OfBoth m (IsLight m) → OfBoth (put p m) (IsLight (put p m))
+put_light : (m : Store) (p : Putting) → shape_weight m.geo.fanout p.index.shape ≤ shape_weight m.geo.fanout m.index.shape + length (nodes_of_parts p.parts) → OfBoth m (IsLight m) → OfBoth (put p m) (IsLight (put p m))
 put_light m p more w = by p.payment (parts_put p.parts m)
   where
     end : Store
     end = fold after_part m p.parts
 
     n : ℕ
-    n = length (nodes_of p.parts)
+    n = length (nodes_of_parts p.parts)
 
     by : (payment : Payment) → ArePut m end n → OfBoth (record (paid payment end) { index = p.index }) (IsLight (record (paid payment end) { index = p.index }))
     by credit are = light_both m (record (paid credit end) { index = p.index }) n (record { geo = are.geo; index = more; now = are.now; next = are.next }) w

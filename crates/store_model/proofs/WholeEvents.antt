@@ -3,11 +3,11 @@ use Rattle.std.proofs.Common.{◌≡◌, ◌⊎◌, ℕ, List, [], ◌∷◌, in
 use Rattle.std.specs.Option.{option_map}
 use Rattle.leaf_map.specs.Kept.{Kept}
 use Rattle.store_model.specs.Events.{begin, Begin, Drop, Offer, offer, offered, Open, Put, Putting, Sync}
-use Rattle.store_model.specs.Fits.{AreLeft, Faced, faced_now}
+use Rattle.store_model.specs.Fits.{AreLeavesLeft, Faced, faced_now}
 use Rattle.store_model.specs.Invariant.{AreWhole, AreWholeOrLeft, faced_later, OfBoth, OfNext}
 use Rattle.store_model.specs.Lebs.{IsSettledWith, IsStoreSettled, lent, space_of}
 use Rattle.space_sums.specs.Spaces.{with_empty}
-use Rattle.store_model.specs.Store.{Index, Next, Store, View}
+use Rattle.store_model.specs.Store.{StoreIndex, Next, Store, View}
 use Rattle.store_model.specs.Texts.{AreNextBudsIn, AreTexts}
 
 pub is_no_begin : (victim : ℕ) (p : Putting) → Begin victim ≡ Put p → ⊥
@@ -22,7 +22,7 @@ is_no_offer p e = absurd cc
 pub is_no_sync : (p : Putting) → Sync ≡ Put p → ⊥
 is_no_sync p e = absurd cc
 
-pub is_no_drop : (ino : ℕ) (index : Index) (p : Putting) → Drop ino index ≡ Put p → ⊥
+pub is_no_drop : (ino : ℕ) (index : StoreIndex) (p : Putting) → Drop ino index ≡ Put p → ⊥
 is_no_drop ino index p e = absurd cc
 
 -- ---- a collection begins
@@ -33,7 +33,7 @@ same_whole m victim view lnum (x ∷ kept) h = (h.0, same_whole m victim view ln
 begin_one : (m : Store) (victim : ℕ) (f : Faced) → AreWholeOrLeft m f → AreWholeOrLeft (begin victim m) f
 begin_one m victim f h lnum = by (h lnum)
   where
-    by : AreWhole m f.view lnum f.view.kept ⊎ AreLeft f lnum f.view.kept → AreWhole (begin victim m) f.view lnum f.view.kept ⊎ AreLeft f lnum f.view.kept
+    by : AreWhole m f.view lnum f.view.kept ⊎ AreLeavesLeft f lnum f.view.kept → AreWhole (begin victim m) f.view lnum f.view.kept ⊎ AreLeavesLeft f lnum f.view.kept
     by (inl whole) = inl (same_whole m victim f.view lnum f.view.kept whole)
     by (inr left) = inr left
 

@@ -9,7 +9,7 @@ use Rattle.index_tree.specs.Removal.{same_leaf}
 use Rattle.fs_model.specs.Proper.{IsProper}
 use Rattle.store_model.specs.Events.{run}
 use Rattle.store_model.specs.Fits.{faced_now}
-use Rattle.store_model.specs.Invariant.{AreProper, AreWholeOrLeft, HasCommitted, HasFiles, IsStore}
+use Rattle.store_model.specs.Invariant.{AreProper, AreWholeOrLeft, HasCommittedView, HasFiles, IsStore}
 use Rattle.store_model.specs.LogRing.{HasLogLebs}
 use Rattle.store_model.specs.Store.{Store}
 use Rattle.store_model.specs.Worked.{am_tree, half_collected, one_file}
@@ -32,7 +32,7 @@ distinct : AreDistinct (map (λ x. x.leaf) half.live)
 unfolding IsDistinct key_rank r5_of same_leaf
 distinct = ((refl, (refl, tt)), ((refl, tt), (tt, tt)))
 
-committed : HasCommitted half.now
+committed : HasCommittedView half.now
 unfolding key_rank r5_of
 committed = record {
   leaves = record { keyed = (refl, (refl, (refl, tt))); ordered = refl; apart = refl };

@@ -11,12 +11,12 @@ use Rattle.fs_model.specs.Proper.{IsProper}
 use Rattle.fs_model.specs.Recovery.{KeepsSynced, recovered, taken}
 use Rattle.store_model.specs.Events.{run}
 use Rattle.store_model.specs.Fits.{faced_now}
-use Rattle.store_model.specs.Heads.{heads_of, numbered}
-use Rattle.store_model.specs.Invariant.{AreWholeOrLeft, HasCommitted, HasFiles, IsStore}
+use Rattle.store_model.specs.Heads.{heads_of, numbered_group}
+use Rattle.store_model.specs.Invariant.{AreWholeOrLeft, HasCommittedView, HasFiles, IsStore}
 use Rattle.store_model.specs.Legal.{IsCarried}
 use Rattle.store_model.specs.LogRing.{HasLogLebs}
 use Rattle.store_model.specs.Store.{Next, Store, View}
-use Rattle.store_model.specs.Worked.{am_entry, am_inode, am_tree, bb_entry, bb_inode, bb_tree, root_tree, rooted, until_offer}
+use Rattle.store_model.specs.Worked.{am_entry, am_inode, am_tree, bb_entry, bb_inode, bb_tree, root_tree, rooted_store, until_offer}
 use Rattle.store_model.proofs.BareLebs.{bare_by}
 use Rattle.store_model.proofs.LegalPut.{am_is_proper}
 use Rattle.store_model.proofs.LegalRuns.{bb_is_proper}
@@ -24,7 +24,7 @@ use Rattle.store_model.proofs.WorkedStates.{offered_stands}
 use Rattle.store_model.proofs.WorkedStore.{geometry}
 
 abbrev offering : Store
-offering = run until_offer rooted
+offering = run until_offer rooted_store
 
 -- its view, and the commit that runs
 abbrev commit_of : Option Next → View → View
@@ -74,7 +74,7 @@ either_proper tree found e (inl am) = subst IsProper (sym (e ∙ am)) am_is_prop
 either_proper tree found e (inr bb) = subst IsProper (sym (e ∙ bb)) bb_is_proper
 
 -- ---- the views
-committed : HasCommitted offering.now
+committed : HasCommittedView offering.now
 unfolding IsDistinct key_rank r5_of
 committed = record { leaves = record { keyed = (refl, tt); ordered = refl; apart = refl }; distinct = (tt, tt); tree = refl; inodes = (tt, tt); highest = refl; copies = tt }
 
@@ -82,7 +82,7 @@ later_distinct : AreDistinct (map (λ x. x.leaf) later.kept)
 unfolding IsDistinct key_rank r5_of same_leaf
 later_distinct = ((refl, (refl, tt)), ((refl, tt), (tt, tt)))
 
-later_committed : HasCommitted later
+later_committed : HasCommittedView later
 unfolding key_rank r5_of
 later_committed = record { leaves = record { keyed = (refl, (refl, (refl, tt))); ordered = refl; apart = refl }; distinct = later_distinct; tree = refl; inodes = (tt, (tt, (tt, tt))); highest = refl; copies = tt }
 
@@ -153,7 +153,7 @@ offering_is_store = record {
     ends = (refl, tt);
   };
   begun = record {
-    before = [] ∷ (numbered (am_entry ∷ am_inode ∷ []) ∷ []) ∷ [] ∷ [];
+    before = [] ∷ (numbered_group (am_entry ∷ am_inode ∷ []) ∷ []) ∷ [] ∷ [];
     mark = 13;
     heads = refl;
     parted = record { long = refl; low = refl; high = refl; above = omega arith };

@@ -5,10 +5,10 @@ use Rattle.index_tree.specs.Order.{key_rank}
 use Rattle.index_tree.specs.Removal.{same_leaf}
 use Rattle.store_model.specs.Events.{run}
 use Rattle.store_model.specs.Invariant.{IsStanding}
-use Rattle.store_model.specs.Worked.{collected, half_collected, one_file, put_am, rooted, until_offer, whole_commit}
+use Rattle.store_model.specs.Worked.{collected_events, half_collected, one_file, put_am, rooted_store, until_offer, whole_commit}
 use Rattle.store_model.specs.WorkedRun.{collection, first_commit, run_all, second_commit, started}
 
-pub put_stands : IsStanding (run put_am rooted)
+pub put_stands : IsStanding (run put_am rooted_store)
 unfolding key_rank r5_of same_leaf
 put_stands = record {
   texts = record {
@@ -22,7 +22,7 @@ put_stands = record {
   of_views = record { live = ((inr (inl refl), tt), ((inl refl, tt), ((inl refl, tt), tt))); held = tt };
 }
 
-pub offered_stands : IsStanding (run until_offer rooted)
+pub offered_stands : IsStanding (run until_offer rooted_store)
 unfolding key_rank r5_of same_leaf
 offered_stands = record {
   texts = record {
@@ -36,7 +36,7 @@ offered_stands = record {
   of_views = record { live = ((inr (inl refl), inr (inl refl)), ((inl refl, inr (inr (inl refl))), ((inl refl, inl refl), ((inl refl, inr (inr (inr (inl refl)))), ((inl refl, inl refl), tt))))); held = tt };
 }
 
-pub ended_stands : IsStanding (run whole_commit rooted)
+pub ended_stands : IsStanding (run whole_commit rooted_store)
 unfolding key_rank r5_of same_leaf
 ended_stands = record {
   texts = record {
@@ -64,7 +64,7 @@ half_stands = record {
   of_views = record { live = ((inl refl, tt), ((inr (inr (inl refl)), tt), ((inr (inr (inr (inl refl))), tt), tt))); held = tt };
 }
 
-pub collected_stands : IsStanding (run collected one_file)
+pub collected_stands : IsStanding (run collected_events one_file)
 unfolding key_rank r5_of same_leaf
 collected_stands = record {
   texts = record {

@@ -16,10 +16,10 @@ use Rattle.fs_model.specs.Recovery.{KeepsSynced, recovered, taken}
 use Rattle.store_model.specs.Fits.{faced_now}
 use Rattle.store_model.specs.Heads.{heads_of}
 use Rattle.store_model.specs.Indexed.{IsIndexed}
-use Rattle.store_model.specs.Invariant.{AreOfViews, AreProper, AreWholeOrLeft, HasCommitted, HasFiles, IsStore}
+use Rattle.store_model.specs.Invariant.{AreOfViews, AreProper, AreWholeOrLeft, HasCommittedView, HasFiles, IsStore}
 use Rattle.store_model.specs.LogRing.{HasLogLebs}
 use Rattle.store_model.specs.Texts.{AreTexts, IsLaidOut}
-use Rattle.store_model.specs.Worked.{am_tree, geo, one_file, root_tree, rooted}
+use Rattle.store_model.specs.Worked.{am_tree, geo, one_file, root_tree, rooted_store}
 use Rattle.store_model.proofs.BareLebs.{bare_by}
 
 root_is_proper : IsProper root_tree
@@ -86,29 +86,29 @@ geometry = record {
 }
 
 -- ---- the root alone
-files : HasFiles rooted
+files : HasFiles rooted_store
 unfolding key_rank r5_of same_leaf
 files = record { leaves = record { keyed = (refl, tt); ordered = refl; apart = refl }; tree = refl; index = refl }
 
-distinct : AreDistinct (map (λ x. x.leaf) rooted.live)
+distinct : AreDistinct (map (λ x. x.leaf) rooted_store.live)
 unfolding IsDistinct
 distinct = (tt, tt)
 
-committed : HasCommitted rooted.now
+committed : HasCommittedView rooted_store.now
 unfolding key_rank r5_of
 committed = record { leaves = record { keyed = (refl, tt); ordered = refl; apart = refl }; distinct = distinct; tree = refl; inodes = (tt, tt); highest = refl; copies = tt }
 
-proper : AreProper (faced_now rooted)
+proper : AreProper (faced_now rooted_store)
 proper tree r = subst IsProper (sym (same_tree root_tree r.counts refl r.synced) ∙ sym r.tree_is) root_is_proper
 
-whole : AreWholeOrLeft rooted (faced_now rooted)
+whole : AreWholeOrLeft rooted_store (faced_now rooted_store)
 whole lnum = inl ((λ _. (inl (refl, inl refl), refl)), tt)
 
 -- a LEB without a text
 laid : {lnum : ℕ} → IsLaidOut geo (record { lnum = lnum; role = kind.Free; text = [] })
 laid = record { places = refl; fits = omega arith }
 
-texts : AreTexts rooted
+texts : AreTexts rooted_store
 unfolding key_rank r5_of
 texts = record {
   laid = (record { places = refl; fits = omega arith }, (record { places = refl; fits = omega arith }, (laid, (laid, (laid, (laid, (laid, (laid, (laid, (laid, (laid, (laid, tt))))))))))));
@@ -118,17 +118,17 @@ texts = record {
   written = tt;
 }
 
-indexed : IsIndexed rooted
+indexed : IsIndexed rooted_store
 unfolding key_rank r5_of
 indexed = record { now = record { nodes = (inr refl, tt); apart = refl }; next = tt; last = (inl (refl, refl), tt); children = refl }
 
-of_views : AreOfViews rooted
+of_views : AreOfViews rooted_store
 of_views = record { live = ((inr (inl refl), tt), tt); held = tt }
 
-log_lebs : HasLogLebs rooted
+log_lebs : HasLogLebs rooted_store
 log_lebs = record { heads = refl; synced = refl; first = omega arith; last = omega arith; within = omega arith; unit = refl; kept = omega arith; on_the_way = tt }
 
-pub root_is_store : IsStore rooted
+pub root_is_store : IsStore rooted_store
 unfolding key_rank r5_of same_leaf
 root_is_store = record {
   geometry = geometry;
@@ -139,7 +139,7 @@ root_is_store = record {
   distinct = distinct;
   places = refl;
   stands = (inl (refl, inl refl), tt);
-  bare = bare_by rooted.lebs refl;
+  bare = bare_by rooted_store.lebs refl;
   proper_now = root_is_proper;
   proper = (proper, tt);
   data_head = (refl, tt);
@@ -173,7 +173,7 @@ file_distinct : AreDistinct (map (λ x. x.leaf) one_file.live)
 unfolding IsDistinct key_rank r5_of same_leaf
 file_distinct = ((refl, (refl, tt)), ((refl, tt), (tt, tt)))
 
-file_committed : HasCommitted one_file.now
+file_committed : HasCommittedView one_file.now
 unfolding key_rank r5_of
 file_committed = record { leaves = record { keyed = (refl, (refl, (refl, tt))); ordered = refl; apart = refl }; distinct = file_distinct; tree = refl; inodes = (tt, (tt, (tt, tt))); highest = refl; copies = tt }
 

@@ -35,8 +35,8 @@ abbrev pub started_tree : Store → Tree
 started_tree m = without_nameless (option_map_or (λ next. next.view.tree) m.next m.now.tree)
 
 -- what the journal tells
-abbrev pub medium_of : Store → Medium
-medium_of m = record {
+abbrev pub store_medium_of : Store → Medium
+store_medium_of m = record {
   committed = without_nameless m.now.tree;
   heads = heads_of m.now.buds m.synced;
   sqnum = m.sqnum;
@@ -44,13 +44,13 @@ medium_of m = record {
   begun = begun_groups m m.next;
 }
 
-abbrev pub journal_of : Store → Journal
-journal_of m = record {
+abbrev pub store_journal_of : Store → Journal
+store_journal_of m = record {
   running = option_map (λ next. next.view.cmt_no) m.next;
   left = option_map_or (λ next. length next.taken - next.written) m.next 0;
   nodes = m.now.put;
   later = option_map_or (λ next. next.view.put) m.next 0;
-  medium = Some (medium_of m);
+  medium = Some (store_medium_of m);
 }
 
 -- the numbers of a store as a book has them, with what is granted
@@ -66,7 +66,7 @@ backing_of m outside = record {
   tree = m.tree;
   space = space_of m;
   grant = m.grant;
-  journal = journal_of m;
+  journal = store_journal_of m;
   victim = list_any (is_victim m) m.lebs;
   contents = outside.contents;
   mode = outside.mode;

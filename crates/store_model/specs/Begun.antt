@@ -13,7 +13,7 @@ pub record JournalLeads (m : Store) : Type 0 where
   pub leads : without_nameless m.tree ≡ replayed (without_nameless m.now.tree) (in_heads (groups_of (heads_of m.now.buds m.synced)))
 
 -- Of the groups of each head these came before a running commit began: their numbers are the lower ones, all are synced, and they lead to the tree on which it began.
-pub record IsBegun (m : Store) (next : Next) : Type 0 where
+pub record IsCommitBegun (m : Store) (next : Next) : Type 0 where
   pub before : List (List Numbered)
   pub mark : ℕ
   pub heads : heads_of m.now.buds m.synced ≡ joined before (heads_of next.view.buds (synced_since m next))
@@ -22,4 +22,4 @@ pub record IsBegun (m : Store) (next : Next) : Type 0 where
 
 abbrev pub HasBegun : Store → Option Next → Type 0
 HasBegun m None = Unit {0}
-HasBegun m (Some next) = IsBegun m next
+HasBegun m (Some next) = IsCommitBegun m next

@@ -16,9 +16,9 @@ use Rattle.fs_model.specs.Journal.{last_number}
 use Rattle.fs_model.specs.Orphan.{nameless}
 use Rattle.leaf_map.specs.After.{gone_by, is_gone, kept_by}
 use Rattle.leaf_map.specs.Kept.{Kept, Placed, kept_at}
-use Rattle.store_model.specs.Heads.{changes_of, counts_of, numbered, synced_since, with_copy, with_group}
-use Rattle.store_model.specs.Lebs.{changed_leb, emptied, has_node, is_among, space_of, tidied}
-use Rattle.store_model.specs.Store.{At, Branching, Bud, Carried, Index, Item, leaf, branching, gap, Leb, LogAt, Moving, Next, Orphan, Place, Store, View}
+use Rattle.store_model.specs.Heads.{changes_of, head_counts, numbered_group, synced_since, with_copy, with_head_group}
+use Rattle.store_model.specs.Lebs.{changed_leb, emptied_leb, has_node, is_among, space_of, tidied_store}
+use Rattle.store_model.specs.Store.{At, Branching, Bud, Carried, StoreIndex, Item, leaf, branching, gap, Leb, LogPlace, Moving, Next, Orphan, IndexNodePlace, Store, View}
 use Rattle.store_model.specs.WrittenNodes.{written_nodes}
 
 -- a group, and the head that it goes to
@@ -35,13 +35,13 @@ pub data Payment : Type 0 where
 pub record Putting : Type 0 where
   pub parts : List Part
   pub payment : Payment
-  pub index : Index
+  pub index : StoreIndex
 
 -- a leaf of the victim, the copy of its node, and the index afterwards
 pub record Copying : Type 0 where
   pub leaf : Kept
   pub copy : Placed
-  pub index : Index
+  pub index : StoreIndex
 
 -- What a store does: it puts groups, opens a LEB at a head, syncs all heads; begins a collection, copies a leaf of its victim, frees the victim; starts a commit, writes a LEB of its index, may have written its master, ends it; and drops an inode without a name that was closed.
 pub data Event : Type 0 where
@@ -55,12 +55,12 @@ pub data Event : Type 0 where
   Write : Event
   Offer : Event
   End : Event
-  Drop : ℕ → Index → Event
+  Drop : ℕ → StoreIndex → Event
 
 -- ---- heads and their LEBs
 -- rounded up to whole units
-abbrev pub whole_units : RawGeometry → ℕ → ℕ
-whole_units geo n = (n + geo.min_io - 1) / geo.min_io * geo.min_io
+abbrev pub whole_store_units : RawGeometry → ℕ → ℕ
+whole_store_units geo n = (n + geo.min_io - 1) / geo.min_io * geo.min_io
 
 -- the bytes of nodes, each rounded up to 8
 abbrev pub nodes_len : List Placed → ℕ
@@ -72,7 +72,7 @@ moved_on geo bytes at = record at { offs = at.offs + bytes; written = (at.offs +
 
 -- where it stands once its last unit is filled up
 abbrev pub filled_up : RawGeometry → At → At
-filled_up geo at = record at { offs = whole_units geo at.offs; written = whole_units geo at.offs }
+filled_up geo at = record at { offs = whole_store_units geo at.offs; written = whole_store_units geo at.offs }
 
 -- the heads, with this done to one
 abbrev pub changed_end : ℕ → (Option At → Option At) → List (Option At) → List (Option At)
@@ -90,12 +90,12 @@ with_items lnum items lebs = changed_leb lnum (λ leb. record leb { text = leb.t
 
 -- the gap that fills a head's last unit
 abbrev pub last_gap : RawGeometry → At → List Item
-last_gap geo at = if at.offs == whole_units geo at.offs then [] else gap (whole_units geo at.offs - at.offs) ∷ []
+last_gap geo at = if at.offs == whole_store_units geo at.offs then [] else gap (whole_store_units geo at.offs - at.offs) ∷ []
 
 -- a head's LEB with its last unit filled
-abbrev pub padded : RawGeometry → List Leb → Option At → List Leb
-padded geo lebs None = lebs
-padded geo lebs (Some at) = with_items at.lnum (last_gap geo at) lebs
+abbrev pub padded_head : RawGeometry → List Leb → Option At → List Leb
+padded_head geo lebs None = lebs
+padded_head geo lebs (Some at) = with_items at.lnum (last_gap geo at) lebs
 
 -- nodes stand at the end of a head
 abbrev pub with_nodes : Store → ℕ → List Placed → Store
@@ -138,13 +138,13 @@ orphans_after orphans tree = map (orphan_in orphans) (nameless tree)
 abbrev pub after_part : Store → Part → Store
 after_part m part =
     let leaves = fold after_change (record { live = m.live; held = m.held }) part.group in
-    let put = in_views (with_group part.head part.group) (length part.group) (with_nodes m part.head (map (λ c. c.placed) part.group)) in
+    let put = in_views (with_head_group part.head part.group) (length part.group) (with_nodes m part.head (map (λ c. c.placed) part.group)) in
     record put {
       live = leaves.live;
       held = leaves.held;
       tree = apply m.tree (changes_of part.group);
       orphans = orphans_after m.orphans (apply m.tree (changes_of part.group));
-      sqnum = last_number m.sqnum (numbered part.group);
+      sqnum = last_number m.sqnum (numbered_group part.group);
     }
 
 -- what pays is spent
@@ -158,14 +158,14 @@ put p m = record (paid p.payment (fold after_part m p.parts)) { index = p.index 
 -- ---- a LEB is opened
 -- a reference in the log takes whole units (`struct ubifs_ref_node` of ubifs-media.h, 64 bytes)
 abbrev pub reference_len : RawGeometry → ℕ
-reference_len geo = whole_units geo 64
+reference_len geo = whole_store_units geo 64
 
 -- the LEB of the log behind another, round the ring
 abbrev pub next_log_leb : RawGeometry → ℕ → ℕ
 next_log_leb geo leb = if nat_lt (leb + 1) geo.log_lebs then leb + 1 else 0
 
 -- the log with one reference more, in the next LEB where the last one is full
-abbrev pub with_reference : RawGeometry → LogAt → LogAt
+abbrev pub with_reference : RawGeometry → LogPlace → LogPlace
 with_reference geo log =
     if nat_le (log.offs + reference_len geo) geo.leb_size then record log { offs = log.offs + reference_len geo }
     else record { leb = next_log_leb geo log.leb; offs = reference_len geo }
@@ -180,7 +180,7 @@ opened_for head moving = if head == 0 then record moving { opened = true } else 
 
 abbrev pub open_leb : ℕ → ℕ → Store → Store
 open_leb head lnum m =
-    let before = padded m.geo m.lebs (end_at m.ends head) in
+    let before = padded_head m.geo m.lebs (end_at m.ends head) in
     record (in_views (λ buds. buds ++ new_bud head lnum 0 ∷ []) 0 m) {
       ends = changed_end head (λ at. Some (record { lnum = lnum; offs = 0; written = 0 })) m.ends;
       lebs = changed_leb lnum (λ leb. record leb { role = kind.Bud; text = [] }) before;
@@ -196,10 +196,10 @@ synced_orphan orphan = record orphan { synced = true }
 
 -- all groups and copies are synced, nothing is held, and leaf LEBs without a leaf are empty
 abbrev pub sync : Store → Store
-sync m = tidied (record m {
-  lebs = fold (padded m.geo) m.lebs m.ends;
+sync m = tidied_store (record m {
+  lebs = fold (padded_head m.geo) m.lebs m.ends;
   ends = map (option_map (filled_up m.geo)) m.ends;
-  synced = counts_of m.now.buds;
+  synced = head_counts m.now.buds;
   held = [];
   orphans = map synced_orphan m.orphans;
 })
@@ -209,19 +209,19 @@ abbrev pub begin : ℕ → Store → Store
 begin victim m = record m { moving = Some (record { victim = victim; opened = false }) }
 
 -- a live leaf stands at its copy
-abbrev pub at_copy : Copying → Kept → Kept
-at_copy c x = if same_leaf x.leaf c.leaf.leaf then record x { leaf = (kept_at c.copy).leaf } else x
+abbrev pub at_its_copy : Copying → Kept → Kept
+at_its_copy c x = if same_leaf x.leaf c.leaf.leaf then record x { leaf = (kept_at c.copy).leaf } else x
 
 abbrev pub move : Copying → Store → Store
-move c m = record (in_views (with_copy c.copy) 0 (with_nodes m 0 (c.copy ∷ []))) { live = map (at_copy c) m.live; index = c.index }
+move c m = record (in_views (with_copy c.copy) 0 (with_nodes m 0 (c.copy ∷ []))) { live = map (at_its_copy c) m.live; index = c.index }
 
 abbrev pub free_victim : Store → Option Moving → Store
 free_victim m None = m
-free_victim m (Some moving) = record m { lebs = changed_leb moving.victim emptied m.lebs; moving = None }
+free_victim m (Some moving) = record m { lebs = changed_leb moving.victim emptied_leb m.lebs; moving = None }
 
 -- ---- a commit
 -- how many nodes have no place yet
-abbrev pub dirty_count : List (Option Place) → ℕ
+abbrev pub dirty_count : List (Option IndexNodePlace) → ℕ
 dirty_count [] = 0
 dirty_count (None ∷ places) = suc (dirty_count places)
 dirty_count (Some place ∷ places) = dirty_count places
@@ -232,16 +232,16 @@ is_whole_commit m =
     not (nat_le ((space_of m).index + index_lebs m.geo (dirty_count m.index.places)) (2 * index_lebs m.geo (space_of m).weight))
 
 -- the places of the nodes that a commit doesn't write
-abbrev pub clean_places : Store → List (Option Place)
+abbrev pub clean_places : Store → List (Option IndexNodePlace)
 clean_places m = if is_whole_commit m then map (λ place. None) m.index.places else m.index.places
 
 -- the n-th place in the LEBs that a commit takes
-abbrev pub taken_place : RawGeometry → List ℕ → ℕ → Place
+abbrev pub taken_place : RawGeometry → List ℕ → ℕ → IndexNodePlace
 taken_place geo taken n =
     record { lnum = get_or taken (n / index_nodes_per_leb geo) 0; offs = n % index_nodes_per_leb geo * index_node_len geo }
 
 -- where all nodes stand at a commit's end, if its next place is the n-th
-abbrev pub all_places : RawGeometry → List ℕ → ℕ → List (Option Place) → List Place
+abbrev pub all_places : RawGeometry → List ℕ → ℕ → List (Option IndexNodePlace) → List IndexNodePlace
 all_places geo taken n [] = []
 all_places geo taken n (None ∷ places) = taken_place geo taken n ∷ all_places geo taken (n + 1) places
 all_places geo taken n (Some place ∷ places) = place ∷ all_places geo taken n places
@@ -256,8 +256,8 @@ open_buds head [] = []
 open_buds head (at ∷ ends) = open_bud head at ++ open_buds (suc head) ends
 
 -- a section starts with a commit's start, of 32 bytes, and a reference for each open head (`struct ubifs_cs_node` of ubifs-media.h)
-abbrev pub new_section : RawGeometry → LogAt → List Bud → LogAt
-new_section geo log buds = record { leb = next_log_leb geo log.leb; offs = whole_units geo (32 + 64 * length buds) }
+abbrev pub new_section : RawGeometry → LogPlace → List Bud → LogPlace
+new_section geo log buds = record { leb = next_log_leb geo log.leb; offs = whole_store_units geo (32 + 64 * length buds) }
 
 -- the inodes without a name, and those closed since the last commit's start that its list names
 abbrev pub next_list : Store → List ℕ
@@ -294,7 +294,7 @@ start taken m =
     }
 
 -- where the children of each node stand: the nodes below it are the last ones that have no parent yet
-abbrev pub below_of : List Place → List ListedNode → List Place → List (List Place)
+abbrev pub below_of : List IndexNodePlace → List ListedNode → List IndexNodePlace → List (List IndexNodePlace)
 below_of waiting [] places = []
 below_of waiting (node ∷ nodes) [] = []
 below_of waiting (node ∷ nodes) (place ∷ places) =
@@ -308,7 +308,7 @@ node_items geo b =
     if rest == 0 then branching b ∷ [] else branching b ∷ gap rest ∷ []
 
 -- the nodes of a LEB, with their numbers from the one after this on
-abbrev pub branchings : ℕ → ℕ → List ListedNode → List Place → List (List Place) → List Branching
+abbrev pub branchings : ℕ → ℕ → List ListedNode → List IndexNodePlace → List (List IndexNodePlace) → List Branching
 branchings lnum sqnum (node ∷ nodes) (place ∷ places) (below ∷ rest) =
     if place.lnum == lnum then (record { sqnum = sqnum + 1; node = node; below = below }) ∷ branchings lnum (sqnum + 1) nodes places rest
     else branchings lnum sqnum nodes places rest
@@ -335,19 +335,19 @@ abbrev pub offered : Next → Next
 offered next = record next { offered = true }
 
 -- a list of orphans is one node, and none where it is empty
-abbrev pub list_nodes : List ℕ → ℕ
-list_nodes [] = 0
-list_nodes (ino ∷ inos) = 1
+abbrev pub nodes_of_list : List ℕ → ℕ
+nodes_of_list [] = 0
+nodes_of_list (ino ∷ inos) = 1
 
 -- the list of orphans is written, and a copy of the master may be
 abbrev pub offer : Store → Store
-offer m = record m { next = option_map offered m.next; sqnum = m.sqnum + option_map_or (λ next. list_nodes next.listed) m.next 0 + 1 }
+offer m = record m { next = option_map offered m.next; sqnum = m.sqnum + option_map_or (λ next. nodes_of_list next.listed) m.next 0 + 1 }
 
 -- what a LEB is for once a commit has ended that leads to this view
 abbrev pub role_then : View → Leb → LebKind → Leb
 role_then view leb kind.Free = leb
 role_then view leb kind.Leaf = leb
-role_then view leb kind.Index = if has_node view.places leb.lnum then leb else emptied leb
+role_then view leb kind.Index = if has_node view.places leb.lnum then leb else emptied_leb leb
 role_then view leb kind.Bud = if list_any (λ bud. bud.lnum == leb.lnum) view.buds then leb else record leb { role = kind.Leaf }
 role_then view leb kind.Taken = record leb { role = kind.Index }
 
@@ -356,7 +356,7 @@ role_after view leb = role_then view leb leb.role
 
 abbrev pub end_commit : Store → Option Next → Store
 end_commit m None = m
-end_commit m (Some next) = tidied (record m {
+end_commit m (Some next) = tidied_store (record m {
   now = next.view;
   next = None;
   synced = synced_since m next;
@@ -374,10 +374,10 @@ is_synced_orphan orphans ino = list_any (λ orphan. (orphan.ino == ino) && orpha
 abbrev pub last_list : Store → List ℕ
 last_list m = option_map_or (λ next. next.listed) m.next m.listed
 
-abbrev pub drop_inode : ℕ → Index → Store → Store
+abbrev pub drop_inode : ℕ → StoreIndex → Store → Store
 drop_inode ino index m =
     let gone = filter (is_gone (DropInode ino)) m.live in
-    tidied (record m {
+    tidied_store (record m {
       tree = without_inode m.tree ino;
       index = index;
       live = filter (λ x. not (is_gone (DropInode ino) x)) m.live;

@@ -43,8 +43,8 @@ faces m = faced_now m ∷ faced_next m m.next
 
 -- ---- what the heads leave
 -- what the log says of a bud
-abbrev pub named_by : Bud → Named
-named_by bud = record { head = bud.head; lnum = bud.lnum; from = bud.from }
+abbrev pub named_by_log : Bud → Named
+named_by_log bud = record { head = bud.head; lnum = bud.lnum; from = bud.from }
 
 -- nothing was put to a bud
 abbrev pub is_unused : Bud → Bool
@@ -57,15 +57,15 @@ buds_but_last (bud ∷ []) = if is_unused bud then [] else bud ∷ []
 buds_but_last (bud ∷ next ∷ buds) = bud ∷ buds_but_last (next ∷ buds)
 
 -- the nodes of groups, in order
-abbrev pub nodes_in : List (List Carried) → List Placed
-nodes_in groups = flat_map (λ group. map (λ c. c.placed) group) groups
+abbrev pub nodes_of_groups : List (List Carried) → List Placed
+nodes_of_groups groups = flat_map (λ group. map (λ c. c.placed) group) groups
 
 -- the nodes of the first groups of heads 1 and 2, so many, in the order of the log
 abbrev pub read_nodes : List Bud → ℕ → ℕ → List Placed
 read_nodes [] base other = []
 read_nodes (bud ∷ buds) base other =
-    if bud.head == 1 then nodes_in (take base bud.groups) ++ read_nodes buds (base - length bud.groups) other
-    else if bud.head == 2 then nodes_in (take other bud.groups) ++ read_nodes buds base (other - length bud.groups)
+    if bud.head == 1 then nodes_of_groups (take base bud.groups) ++ read_nodes buds (base - length bud.groups) other
+    else if bud.head == 2 then nodes_of_groups (take other bud.groups) ++ read_nodes buds base (other - length bud.groups)
     else read_nodes buds base other
 
 -- ---- leaves whose LEB was emptied
@@ -103,13 +103,13 @@ abbrev pub has_copy : Faced → Kept → Bool
 has_copy f x = list_any (λ c. (c.sqnum == x.sqnum) && shows_same (shown_by x) (shown c.node)) (take (get_or f.synced 0 0) (copies_of f.view.buds))
 
 -- A committed leaf that needn't stand any more: a copy of it is synced, or synced groups make it obsolete, or its inode stays without a name and each list of orphans has it.
-abbrev pub IsLeft : Faced → Kept → Type 0
-IsLeft f x = IsTrue (has_copy f x) ⊎ IsTouchedBy (heads_of f.view.buds f.synced) x ⊎ (AreOfListed f.lists x × IsOfNameless f (shown_by x))
+abbrev pub IsLeafLeft : Faced → Kept → Type 0
+IsLeafLeft f x = IsTrue (has_copy f x) ⊎ IsTouchedBy (heads_of f.view.buds f.synced) x ⊎ (AreOfListed f.lists x × IsOfNameless f (shown_by x))
 
 -- each leaf of a LEB needn't
-abbrev pub AreLeft : Faced → ℕ → List Kept → Type 0
-AreLeft f lnum [] = Unit {0}
-AreLeft f lnum (x ∷ kept) = (x.leaf.lnum ≡ lnum → IsLeft f x) × AreLeft f lnum kept
+abbrev pub AreLeavesLeft : Faced → ℕ → List Kept → Type 0
+AreLeavesLeft f lnum [] = Unit {0}
+AreLeavesLeft f lnum (x ∷ kept) = (x.leaf.lnum ≡ lnum → IsLeafLeft f x) × AreLeavesLeft f lnum kept
 
 -- ---- what fits
 -- a committed leaf as it was read has its own node
@@ -121,11 +121,11 @@ abbrev pub HasOwnOrNone : List Named → Committed → Kept → Type 0
 HasOwnOrNone named c x = HasOwn named c x ⊎ ((own_node named c ≡ None) × (shows_nothing named c ≡ false))
 
 -- the committed leaves as they were read: each has its own node or none
-abbrev pub AreCommitted : List Named → List Committed → List Kept → Type 0
-AreCommitted named [] [] = Unit {0}
-AreCommitted named [] (x ∷ kept) = ⊥
-AreCommitted named (c ∷ committed) [] = ⊥
-AreCommitted named (c ∷ committed) (x ∷ kept) = (c.leaf ≡ x.leaf) × HasOwnOrNone named c x × AreCommitted named committed kept
+abbrev pub AreLeavesCommitted : List Named → List Committed → List Kept → Type 0
+AreLeavesCommitted named [] [] = Unit {0}
+AreLeavesCommitted named [] (x ∷ kept) = ⊥
+AreLeavesCommitted named (c ∷ committed) [] = ⊥
+AreLeavesCommitted named (c ∷ committed) (x ∷ kept) = (c.leaf ≡ x.leaf) × HasOwnOrNone named c x × AreLeavesCommitted named committed kept
 
 -- each leaf of a LEB has its own node
 abbrev pub AreOwn : List Named → ℕ → List Committed → List Kept → Type 0
@@ -133,14 +133,14 @@ AreOwn named lnum (c ∷ committed) (x ∷ kept) = (x.leaf.lnum ≡ lnum → Has
 AreOwn named lnum committed kept = Unit {0}
 
 -- one of the lists
-abbrev pub IsOneOf : List (List ℕ) → List ℕ → Type 0
-IsOneOf [] list = ⊥
-IsOneOf (first ∷ lists) list = (list ≡ first) ⊎ IsOneOf lists list
+abbrev pub IsOneOfLists : List (List ℕ) → List ℕ → Type 0
+IsOneOfLists [] list = ⊥
+IsOneOfLists (first ∷ lists) list = (list ≡ first) ⊎ IsOneOfLists lists list
 
 -- What was read fits what a master leads to: its index, its buds, of each head first groups with all that are synced, and a list of orphans. Of each LEB all committed leaves have their own node, or none needs to.
 pub record FitsFaced (f : Faced) (parts : Parts) : Type 0 where
   pub highest : parts.highest ≡ f.view.highest
-  pub named : (parts.named ≡ map named_by f.view.buds) ⊎ (parts.named ≡ map named_by (buds_but_last f.view.buds))
+  pub named : (parts.named ≡ map named_by_log f.view.buds) ⊎ (parts.named ≡ map named_by_log (buds_but_last f.view.buds))
   pub base : ℕ
   pub data_groups : ℕ
   pub keeps : KeepsSynced (heads_of f.view.buds f.synced) (0 ∷ base ∷ data_groups ∷ [])
@@ -148,14 +148,14 @@ pub record FitsFaced (f : Faced) (parts : Parts) : Type 0 where
   pub copies : ℕ
   pub synced_copies : get_or f.synced 0 0 ≤ copies
   pub copies_are : parts.copies ≡ take copies (copies_of f.view.buds)
-  pub committed : AreCommitted parts.named parts.committed f.view.kept
-  pub lebs : (lnum : ℕ) → AreOwn parts.named lnum parts.committed f.view.kept ⊎ AreLeft f lnum f.view.kept
-  pub listed : IsOneOf f.lists parts.listed
+  pub committed : AreLeavesCommitted parts.named parts.committed f.view.kept
+  pub lebs : (lnum : ℕ) → AreOwn parts.named lnum parts.committed f.view.kept ⊎ AreLeavesLeft f lnum f.view.kept
+  pub listed : IsOneOfLists f.lists parts.listed
 
 -- what was read fits a store
 abbrev pub FitsAny : List Faced → Parts → Type 0
 FitsAny [] parts = ⊥
 FitsAny (f ∷ faced) parts = FitsFaced f parts ⊎ FitsAny faced parts
 
-abbrev pub Fits : Store → Parts → Type 0
-Fits m parts = FitsAny (faces m) parts
+abbrev pub FitsStore : Store → Parts → Type 0
+FitsStore m parts = FitsAny (faces m) parts

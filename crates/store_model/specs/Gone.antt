@@ -8,7 +8,7 @@ use Rattle.fs_model.specs.Files.{Tree, inode_at}
 use Rattle.fs_model.specs.Orphan.{is_nameless}
 use Rattle.fs_model.specs.Recovery.{as_replayed}
 use Rattle.store_model.specs.Fits.{Faced}
-use Rattle.store_model.specs.Heads.{changes_of, groups_of}
+use Rattle.store_model.specs.Heads.{changes_of, groups_of_head}
 use Rattle.store_model.specs.Store.{Bud, Carried, Orphan}
 
 -- whether a group has a change that passes a test, as recovery makes it
@@ -17,11 +17,11 @@ group_does test group = list_any (λ change. test (as_replayed change)) (changes
 
 -- whether a group of heads 1 and 2 has one
 abbrev pub some_does : (Change → Bool) → List Bud → Bool
-some_does test buds = list_any (group_does test) (groups_of 1 buds) || list_any (group_does test) (groups_of 2 buds)
+some_does test buds = list_any (group_does test) (groups_of_head 1 buds) || list_any (group_does test) (groups_of_head 2 buds)
 
 -- whether a synced one has
 abbrev pub some_synced_does : (Change → Bool) → List ℕ → List Bud → Bool
-some_synced_does test synced buds = list_any (group_does test) (take (get_or synced 1 0) (groups_of 1 buds)) || list_any (group_does test) (take (get_or synced 2 0) (groups_of 2 buds))
+some_synced_does test synced buds = list_any (group_does test) (take (get_or synced 1 0) (groups_of_head 1 buds)) || list_any (group_does test) (take (get_or synced 2 0) (groups_of_head 2 buds))
 
 -- whether a change takes an inode away
 abbrev pub drops_inode : ℕ → Change → Bool

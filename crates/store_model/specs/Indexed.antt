@@ -6,7 +6,7 @@ use Rattle.index_tree.specs.Listing.{ListedNode}
 use Rattle.store_model.specs.Events.{below_of}
 use Rattle.store_model.specs.Lebs.{is_among}
 use Rattle.store_model.specs.Legal.{has_placed_children, KeepPlaces}
-use Rattle.store_model.specs.Store.{Branching, Index, Item, leaf, branching, gap, Leb, Next, Place, Store, View}
+use Rattle.store_model.specs.Store.{Branching, StoreIndex, Item, leaf, branching, gap, Leb, Next, IndexNodePlace, Store, View}
 use Rattle.store_model.specs.Texts.{item_len, text_in}
 use Rattle.store_model.specs.WrittenNodes.{rows_of, written_nodes}
 
@@ -18,18 +18,18 @@ branching_at offs from (gap n ∷ items) = branching_at offs (from + n) items
 branching_at offs from (branching b ∷ items) = if from == offs then Some b else branching_at offs (from + item_len (branching b)) items
 
 -- a node of an index stands at its place, with the places of its children
-abbrev pub IsBranchingAt : List Leb → Place → ListedNode → List Place → Type 0
-IsBranchingAt lebs place node below = option_map {U = ListedNode × List Place} (λ b. (b.node, b.below)) (branching_at place.offs 0 (text_in lebs place.lnum)) ≡ Some (node, below)
+abbrev pub IsBranchingAt : List Leb → IndexNodePlace → ListedNode → List IndexNodePlace → Type 0
+IsBranchingAt lebs place node below = option_map {U = ListedNode × List IndexNodePlace} (λ b. (b.node, b.below)) (branching_at place.offs 0 (text_in lebs place.lnum)) ≡ Some (node, below)
 
 -- each of these nodes has a place and stands there, unless its LEB is among those that aren't written yet
-abbrev pub AreBranchingsAt : List Leb → List ℕ → List ListedNode → List Place → List (List Place) → Type 0
+abbrev pub AreBranchingsAt : List Leb → List ℕ → List ListedNode → List IndexNodePlace → List (List IndexNodePlace) → Type 0
 AreBranchingsAt lebs unwritten [] [] below = Unit {0}
 AreBranchingsAt lebs unwritten (node ∷ nodes) (place ∷ places) (children ∷ below) =
     (IsTrue (is_among unwritten place.lnum) ⊎ IsBranchingAt lebs place node children) × AreBranchingsAt lebs unwritten nodes places below
 AreBranchingsAt lebs unwritten nodes places below = ⊥
 
 -- no two places are one
-abbrev pub are_other_places : List Place → Bool
+abbrev pub are_other_places : List IndexNodePlace → Bool
 are_other_places [] = true
 are_other_places (place ∷ places) = not (list_any (λ other. (other.lnum == place.lnum) && (other.offs == place.offs)) places) && are_other_places places
 
@@ -43,10 +43,10 @@ abbrev pub unwritten_lebs : Next → List ℕ
 unwritten_lebs next = drop next.written next.taken
 
 -- the index that the last commit leads to, ended or not
-abbrev pub committed_index : View → Index
+abbrev pub committed_index : View → StoreIndex
 committed_index view = record { shape = view.shape; places = map Some view.places }
 
-abbrev pub last_index : Store → Index
+abbrev pub last_index : Store → StoreIndex
 last_index m = committed_index (option_map_or (λ next. next.view) m.next m.now)
 
 -- A node of the present index that has a place is one of the last commit's, with all that is below it, and has its place.

@@ -31,14 +31,14 @@ use Rattle.space_sums.specs.Spaces.{IsNextIndex}
 use Rattle.store_model.specs.Backing.{book_of}
 use Rattle.store_model.specs.Begun.{HasBegun, JournalLeads}
 use Rattle.store_model.specs.Events.{all_places, dirty_count}
-use Rattle.store_model.specs.Fits.{AreLeft, Faced, faced_now, IsLeft, named_by}
+use Rattle.store_model.specs.Fits.{AreLeavesLeft, Faced, faced_now, IsLeafLeft, named_by_log}
 use Rattle.store_model.specs.Gone.{is_lost, LostItsName, some_does}
-use Rattle.store_model.specs.Heads.{copies_of, counts_of, groups_of, heads_of, numbered, synced_since}
+use Rattle.store_model.specs.Heads.{copies_of, head_counts, groups_of_head, heads_of, numbered_group, synced_since}
 use Rattle.store_model.specs.Indexed.{IsIndexed}
 use Rattle.store_model.specs.Legal.{are_distinct, is_block, IsCarried, IsLeafOf}
-use Rattle.store_model.specs.Lebs.{has_leaf, has_role, is_among, is_victim_of, IsStoreSettled, running_of, space_of, weight_of}
+use Rattle.store_model.specs.Lebs.{has_leaf, has_role, is_among, is_victim_of, IsStoreSettled, running_commit_of, space_of, weight_of}
 use Rattle.store_model.specs.LogRing.{HasLogLebs}
-use Rattle.store_model.specs.Store.{At, Bud, Carried, Item, leaf, branching, gap, Leb, Moving, Next, Place, Store, View}
+use Rattle.store_model.specs.Store.{At, Bud, Carried, Item, leaf, branching, gap, Leb, Moving, Next, IndexNodePlace, Store, View}
 use Rattle.store_model.specs.Texts.{AreTexts, leaf_nodes}
 
 -- ---- both views
@@ -62,33 +62,33 @@ IsMeantIn x (leaf placed ∷ items) = (kept_at placed ≡ x) ⊎ IsMeantIn x ite
 IsMeantIn x (branching b ∷ items) = IsMeantIn x items
 IsMeantIn x (gap n ∷ items) = IsMeantIn x items
 
-abbrev pub Stands : List Leb → Kept → Type 0
-Stands [] x = ⊥
-Stands (leb ∷ lebs) x = ((leb.lnum ≡ x.leaf.lnum) × IsMeantIn x leb.text) ⊎ Stands lebs x
+abbrev pub LeafStands : List Leb → Kept → Type 0
+LeafStands [] x = ⊥
+LeafStands (leb ∷ lebs) x = ((leb.lnum ≡ x.leaf.lnum) × IsMeantIn x leb.text) ⊎ LeafStands lebs x
 
 -- each leaf of a LEB stands, at a place that is none of the journal's
 abbrev pub AreWhole : Store → View → ℕ → List Kept → Type 0
 AreWhole m view lnum [] = Unit {0}
 AreWhole m view lnum (x ∷ kept) =
-    (x.leaf.lnum ≡ lnum → Stands m.lebs x × IsTrue (not (in_bud (map named_by view.buds) x.leaf))) × AreWhole m view lnum kept
+    (x.leaf.lnum ≡ lnum → LeafStands m.lebs x × IsTrue (not (in_bud (map named_by_log view.buds) x.leaf))) × AreWhole m view lnum kept
 
 -- Of a LEB all committed leaves stand, or none needs to
 abbrev pub AreWholeOrLeft : Store → Faced → Type 0
-AreWholeOrLeft m f = (lnum : ℕ) → AreWhole m f.view lnum f.view.kept ⊎ AreLeft f lnum f.view.kept
+AreWholeOrLeft m f = (lnum : ℕ) → AreWhole m f.view lnum f.view.kept ⊎ AreLeavesLeft f lnum f.view.kept
 
 -- ---- what became of committed leaves
 -- a copy of a leaf's node was made since this master's commit began, synced or not
-abbrev pub is_copied : Faced → Kept → Bool
-is_copied f x = list_any (λ c. (c.sqnum == x.sqnum) && shows_same (shown_by x) (shown c.node)) (copies_of f.view.buds)
+abbrev pub is_leaf_copied : Faced → Kept → Bool
+is_leaf_copied f x = list_any (λ c. (c.sqnum == x.sqnum) && shows_same (shown_by x) (shown c.node)) (copies_of f.view.buds)
 
 -- a leaf was copied out of the LEB that a collection is to free
 abbrev pub IsMoved : Option Moving → Faced → Kept → Type 0
 IsMoved None f x = ⊥
-IsMoved (Some moving) f x = (x.leaf.lnum ≡ moving.victim) × IsTrue (is_copied f x)
+IsMoved (Some moving) f x = (x.leaf.lnum ≡ moving.victim) × IsTrue (is_leaf_copied f x)
 
 -- a committed leaf is live, or held, or moved, or needn't stand
 abbrev pub IsAccountedFor : Store → Faced → Kept → Type 0
-IsAccountedFor m f x = IsLeafOf m.live x ⊎ IsLeafOf m.held x ⊎ IsMoved m.moving f x ⊎ IsLeft f x
+IsAccountedFor m f x = IsLeafOf m.live x ⊎ IsLeafOf m.held x ⊎ IsMoved m.moving f x ⊎ IsLeafLeft f x
 
 abbrev pub AreAccountedFor : Store → Faced → Type 0
 AreAccountedFor m f = AllByRecursion (IsAccountedFor m f) f.view.kept
@@ -119,7 +119,7 @@ abbrev pub are_given : ℕ → Numbered → Bool
 are_given sqnum changes = ascends nat_cmp (map (λ c. c.0) changes) && list_all (λ c. nat_le c.0 sqnum) changes
 
 abbrev pub head_numbers : List Bud → ℕ → Numbered
-head_numbers buds head = flat_map numbered (groups_of head buds)
+head_numbers buds head = flat_map numbered_group (groups_of_head head buds)
 
 -- the groups and leaves of a view have numbers that were given, and no number stands at two heads
 pub record AreNumbered (m : Store) (f : Faced) : Type 0 where
@@ -141,7 +141,7 @@ IsCopyOf [] copy = ⊥
 IsCopyOf (x ∷ kept) copy = ((copy.node ≡ x.node) × (copy.sqnum ≡ x.sqnum)) ⊎ IsCopyOf kept copy
 
 -- A view's leaves are those of an index, no two at one place, and show its tree, whose highest number is that of the master or of a key; each block has its inode, and what the collector copied are nodes of these leaves, with their numbers.
-pub record HasCommitted (view : View) : Type 0 where
+pub record HasCommittedView (view : View) : Type 0 where
   pub leaves : IsLeafMap view.kept
   pub distinct : AreDistinct (map (λ x. x.leaf) view.kept)
   pub tree : tree_of view.kept view.tree.highest ≡ view.tree
@@ -154,8 +154,8 @@ abbrev pub all_carried : List Bud → List Carried
 all_carried buds = flat_map (λ bud. flat_map (λ group. group) bud.groups) buds
 
 -- the nodes of a view's groups carry their changes
-abbrev pub AreCarried : View → Type 0
-AreCarried view = AllByRecursion IsCarried (all_carried view.buds)
+abbrev pub AreChangesCarried : View → Type 0
+AreChangesCarried view = AllByRecursion IsCarried (all_carried view.buds)
 
 -- the head of data has blocks alone
 abbrev pub HasBlocks : View → Type 0
@@ -172,13 +172,13 @@ is_listed test (Some (SetInode ino inode)) = not (inode.nlink == 0) || test ino
 is_listed test shown = true
 
 -- so do all inodes without links among a view's leaves
-abbrev pub AreOrphans : (ℕ → Bool) → View → Type 0
-AreOrphans test view = IsTrue (list_all (λ x. is_listed test (shown_by x)) view.kept)
+abbrev pub AreViewOrphans : (ℕ → Bool) → View → Type 0
+AreViewOrphans test view = IsTrue (list_all (λ x. is_listed test (shown_by x)) view.kept)
 
 -- each list that may be there has the orphans among a view's leaves
 abbrev pub HaveOrphans : Faced → List (List ℕ) → Type 0
 HaveOrphans f [] = Unit {0}
-HaveOrphans f (list ∷ lists) = AreOrphans (is_among list) f.view × HaveOrphans f lists
+HaveOrphans f (list ∷ lists) = AreViewOrphans (is_among list) f.view × HaveOrphans f lists
 
 -- an inode that has no name still, or was closed since the last commit's start, whose list names it
 abbrev pub is_still_listed : Store → ℕ → Bool
@@ -186,18 +186,18 @@ is_still_listed m ino = is_nameless m.tree ino || is_among m.closed ino
 
 -- The next commit's list will have the orphans of the last commit, ended or not. A running one's list has its own and those of the finished one, offered or not.
 abbrev pub KeepOrphans : Store → Option Next → Type 0
-KeepOrphans m None = AreOrphans (is_still_listed m) m.now
-KeepOrphans m (Some next) = AreOrphans (is_among next.listed) m.now × AreOrphans (is_among next.listed) next.view × AreOrphans (is_still_listed m) next.view
+KeepOrphans m None = AreViewOrphans (is_still_listed m) m.now
+KeepOrphans m (Some next) = AreViewOrphans (is_among next.listed) m.now × AreViewOrphans (is_among next.listed) next.view × AreViewOrphans (is_still_listed m) next.view
 
 -- Inodes without links among the leaves that a master leads to are on the list that the medium has, and on those that later commits write while that master may be there.
-pub record HasOrphans (m : Store) : Type 0 where
-  pub now : AreOrphans (is_among m.listed) m.now
+pub record HasListedOrphans (m : Store) : Type 0 where
+  pub now : AreViewOrphans (is_among m.listed) m.now
   pub later : KeepOrphans m m.next
 
 -- What is gone since a commit, by what a master leads to: a committed inode without links has no name still, or isn't there, and no group since gives it links; groups since, synced or not, made each held leaf that the view has obsolete, and took the last name of each orphan.
 pub record HasGone (m : Store) (f : Faced) : Type 0 where
-  pub lost : AreOrphans (is_lost m.tree) f.view
-  pub unset : AreOrphans (λ ino. not (some_does (sets_inode ino) f.view.buds)) f.view
+  pub lost : AreViewOrphans (is_lost m.tree) f.view
+  pub unset : AreViewOrphans (λ ino. not (some_does (sets_inode ino) f.view.buds)) f.view
   pub held : AllByRecursion (λ x. IsTrue (some_does (λ change. is_gone change x) f.view.buds)) m.held
   pub orphans : AllByRecursion (LostItsName f) m.orphans
 
@@ -232,7 +232,7 @@ AreAtBuds buds head (None ∷ ends) = AreAtBuds buds (head + 1) ends
 AreAtBuds buds head (Some at ∷ ends) = (last_bud buds head ≡ Some at.lnum) × AreAtBuds buds (head + 1) ends
 
 -- what each LEB is for
-pub record AreApart (m : Store) : Type 0 where
+pub record AreRolesApart (m : Store) : Type 0 where
   pub numbers : IsTrue (are_distinct (map (λ leb. leb.lnum) m.lebs))
   pub used : IsTrue (list_all (λ leb. is_used m leb.lnum leb.role) m.lebs)
   pub buds : IsTrue (list_all (λ bud. has_role kind.Bud m.lebs bud.lnum) m.now.buds)
@@ -255,7 +255,7 @@ IsTaking m (Some next) =
 -- Where the nodes of a running commit's index are to stand: those that it writes one behind another in the LEBs that it took, which are as many as they fill; all others in none of these.
 pub record IsAllotted (geo : RawGeometry) (next : Next) : Type 0 where
   -- of each node the place that it had, or none if the commit writes it
-  pub clean : List (Option Place)
+  pub clean : List (Option IndexNodePlace)
   pub places : next.view.places ≡ all_places geo next.taken 0 clean
   pub lebs : length next.taken ≡ index_lebs geo (dirty_count clean)
   pub apart : IsTrue (list_all (λ o. option_map_or (λ place. not (is_among next.taken place.lnum)) o true) clean)
@@ -274,8 +274,8 @@ pub record CameSince {X : Type 0} (all last : List X) (synced : ℕ) : Type 0 wh
 -- What the buds of a running commit's view have came since it began, and all before is synced. The open heads stand in its buds too.
 pub record IsSince (m : Store) (view : View) : Type 0 where
   pub copies : CameSince (copies_of m.now.buds) (copies_of view.buds) (get_or m.synced 0 0)
-  pub base : CameSince (groups_of 1 m.now.buds) (groups_of 1 view.buds) (get_or m.synced 1 0)
-  pub data_nodes : CameSince (groups_of 2 m.now.buds) (groups_of 2 view.buds) (get_or m.synced 2 0)
+  pub base : CameSince (groups_of_head 1 m.now.buds) (groups_of_head 1 view.buds) (get_or m.synced 1 0)
+  pub data_nodes : CameSince (groups_of_head 2 m.now.buds) (groups_of_head 2 view.buds) (get_or m.synced 2 0)
   pub ends : AreAtBuds view.buds 0 m.ends
 
 abbrev pub HasSince : Store → Option Next → Type 0
@@ -289,7 +289,7 @@ IsLight m f = shape_weight m.geo.fanout m.index.shape ≤ weight_of m.geo f.view
 -- A running commit's index has no more LEBs than twice what the store's weight asks for, and weighs no more than the store does.
 abbrev pub HasNextIndex : Store → Option Next → Type 0
 HasNextIndex m None = Unit {0}
-HasNextIndex m (Some next) = IsNextIndex m.geo (running_of m next) (space_of m)
+HasNextIndex m (Some next) = IsNextIndex m.geo (running_commit_of m next) (space_of m)
 
 -- ---- what the lists of a state have to do with one another
 -- one row for each LEB of the main area, in order
@@ -298,7 +298,7 @@ main_lnums geo = range_with_len (main_first geo) (main_lebs geo)
 
 -- a leaf is one of a view's, or stands in one of its buds
 abbrev pub IsOfView : View → Kept → Type 0
-IsOfView view x = IsTrue (in_bud (map named_by view.buds) x.leaf) ⊎ IsLeafOf view.kept x
+IsOfView view x = IsTrue (in_bud (map named_by_log view.buds) x.leaf) ⊎ IsLeafOf view.kept x
 
 abbrev pub IsOfNext : Option Next → Kept → Type 0
 IsOfNext None x = Unit {0}
@@ -322,8 +322,8 @@ takes_leaves kind.Bud = true
 takes_leaves role = false
 
 -- in a LEB of another role, such as an empty one, no leaf node is meant to stand
-abbrev pub IsBare : Leb → Type 0
-IsBare leb = takes_leaves leb.role ≡ false → leaf_nodes leb.text ≡ []
+abbrev pub IsBareOfLeaves : Leb → Type 0
+IsBareOfLeaves leb = takes_leaves leb.role ≡ false → leaf_nodes leb.text ≡ []
 
 -- ---- the invariant
 -- The live leaves are leaves of an index and show the files, and the index has them in order.
@@ -342,12 +342,12 @@ pub record AreOwned (m : Store) : Type 0 where
 pub record HasNumbers (m : Store) : Type 0 where
   pub both : OfBoth m (AreNumbered m)
   pub live : IsTrue (list_all (λ x. nat_le x.sqnum m.sqnum) m.live)
-  pub synced : IsTrue (are_within m.synced (counts_of m.now.buds))
+  pub synced : IsTrue (are_within m.synced (head_counts m.now.buds))
 
 -- What was committed is whole, and the nodes that were put since carry their changes.
 pub record HasViews (m : Store) : Type 0 where
-  pub committed : OfBoth m (λ f. HasCommitted f.view)
-  pub carried : OfBoth m (λ f. AreCarried f.view)
+  pub committed : OfBoth m (λ f. HasCommittedView f.view)
+  pub carried : OfBoth m (λ f. AreChangesCarried f.view)
 
 -- Of the invariant these are the fields that no law gives of each event.
 pub record HasRest (m : Store) : Type 0 where
@@ -367,9 +367,9 @@ pub record IsStore (m : Store) : Type 0 where
   pub distinct : AreDistinct (map (λ x. x.leaf) m.live)
   pub places : length m.index.places ≡ node_count m.index.shape
   -- each live leaf's node is meant at its place
-  pub stands : AllByRecursion (Stands m.lebs) m.live
+  pub stands : AllByRecursion (LeafStands m.lebs) m.live
   -- leaf nodes stand in leaf LEBs and buds alone
-  pub bare : AllByRecursion IsBare m.lebs
+  pub bare : AllByRecursion IsBareOfLeaves m.lebs
   -- the files are a proper tree, and so is each that a cut may leave
   pub proper_now : IsProper m.tree
   pub proper : OfBoth m AreProper
@@ -386,10 +386,10 @@ pub record IsStore (m : Store) : Type 0 where
   -- and what is gone since a commit stays so
   pub gone : OfBoth m (HasGone m)
   -- committed inodes without links are listed, by each list that may be there
-  pub orphans : HasOrphans m
+  pub orphans : HasListedOrphans m
   pub nameless_are : map (λ orphan. orphan.ino) m.orphans ≡ nameless m.tree
   -- what each LEB is for
-  pub apart : AreApart m
+  pub apart : AreRolesApart m
   pub taking : IsTaking m m.next
   -- a running commit writes its nodes one behind another
   pub allotted : HasAllotted m.geo m.next

@@ -11,7 +11,7 @@ use Rattle.fs_model.specs.Settled.{IsSettled}
 use Rattle.leaf_map.specs.After.{used_by}
 use Rattle.leaf_map.specs.Kept.{Kept}
 use Rattle.space_sums.specs.Spaces.{Running, IsSettledTwice, with_empty}
-use Rattle.store_model.specs.Store.{Store, View, Next, Leb, Place, Moving}
+use Rattle.store_model.specs.Store.{Store, View, Next, Leb, IndexNodePlace, Moving}
 
 -- whether two roles are one
 abbrev pub is_role : LebKind → LebKind → Bool
@@ -70,12 +70,12 @@ space_of m = record {
 }
 
 -- whether a node stands in a LEB
-abbrev pub has_node : List Place → ℕ → Bool
+abbrev pub has_node : List IndexNodePlace → ℕ → Bool
 has_node places lnum = list_any (λ place. place.lnum == lnum) places
 
 -- what a running commit comes to
-abbrev pub running_of : Store → Next → Running
-running_of m next = record {
+abbrev pub running_commit_of : Store → Next → Running
+running_commit_of m next = record {
   taken = length next.taken;
   lebs = count_by (λ leb. has_node next.view.places leb.lnum) m.lebs;
   weight = weight_of m.geo next.view;
@@ -89,7 +89,7 @@ lent (Some moving) = if moving.opened then 1 else 0
 -- settled, also as the end of a commit that runs leaves it, where these LEBs are lent
 abbrev pub IsSettledWith : Store → Space → Option Next → Type 0
 IsSettledWith m space None = IsSettled m.geo space
-IsSettledWith m space (Some next) = IsSettledTwice m.geo (running_of m next) space
+IsSettledWith m space (Some next) = IsSettledTwice m.geo (running_commit_of m next) space
 
 -- a store is settled
 abbrev pub IsStoreSettled : Store → Type 0
@@ -105,11 +105,11 @@ is_victim_of None lnum = false
 is_victim_of (Some moving) lnum = moving.victim == lnum
 
 -- an empty LEB; what a device still has of it is never read
-abbrev pub emptied : Leb → Leb
-emptied leb = record leb { role = kind.Free; text = [] }
+abbrev pub emptied_leb : Leb → Leb
+emptied_leb leb = record leb { role = kind.Free; text = [] }
 
 abbrev pub freed : Store → Leb → Leb
-freed m leb = if is_role kind.Leaf leb.role && not (has_leaf m leb.lnum) && not (is_victim_of m.moving leb.lnum) then emptied leb else leb
+freed m leb = if is_role kind.Leaf leb.role && not (has_leaf m leb.lnum) && not (is_victim_of m.moving leb.lnum) then emptied_leb leb else leb
 
-abbrev pub tidied : Store → Store
-tidied m = record m { lebs = map (freed m) m.lebs }
+abbrev pub tidied_store : Store → Store
+tidied_store m = record m { lebs = map (freed m) m.lebs }

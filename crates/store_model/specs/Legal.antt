@@ -20,24 +20,24 @@ use Rattle.fs_model.specs.Proper.{IsProper}
 use Rattle.fs_model.specs.Recovery.{Numbered}
 use Rattle.fs_model.specs.Orphan.{all_drop_named, all_revive_none}
 use Rattle.group_nodes.specs.Texts.{leaf_len}
-use Rattle.leaf_map.specs.After.{Carries}
+use Rattle.leaf_map.specs.After.{ShowsChange}
 use Rattle.leaf_map.specs.Kept.{Kept, Placed}
 use Rattle.space_sums.specs.Spaces.{taken_lebs}
 use Rattle.store_model.specs.Events.{after, after_part, Copying, credit, dirty_count, drop_inode, end_at, Event, Put, Open, Sync, Begin, Move, Free, Start, Write, Offer, End, Drop, granted, move, nodes_len, Part, Payment, put, Putting, reference_len}
-use Rattle.store_model.specs.Heads.{changes_of, counts_of, numbered}
+use Rattle.store_model.specs.Heads.{changes_of, head_counts, numbered_group}
 use Rattle.store_model.specs.Lebs.{has_role, IsStoreSettled, lent, role_count, space_of, stands_in}
-use Rattle.store_model.specs.Store.{At, Carried, Index, Moving, Next, Place, Store}
+use Rattle.store_model.specs.Store.{At, Carried, StoreIndex, Moving, Next, IndexNodePlace, Store}
 use Rattle.store_model.specs.WrittenNodes.{rows_of, written_nodes}
 
 -- ---- the index
 -- this row stands at this place, among rows and their places
-abbrev pub StandsBelow : Shape → Place → List Shape → List (Option Place) → Type 0
+abbrev pub StandsBelow : Shape → IndexNodePlace → List Shape → List (Option IndexNodePlace) → Type 0
 StandsBelow row place [] places = ⊥
 StandsBelow row place (first ∷ rows) [] = ⊥
 StandsBelow row place (first ∷ rows) (at ∷ places) = ((first ≡ row) × (at ≡ Some place)) ⊎ StandsBelow row place rows places
 
 -- each node that has a place had it before, with all that is below it
-abbrev pub KeepPlaces : Index → List Shape → List (Option Place) → Type 0
+abbrev pub KeepPlaces : StoreIndex → List Shape → List (Option IndexNodePlace) → Type 0
 KeepPlaces old [] [] = Unit {0}
 KeepPlaces old [] (at ∷ places) = ⊥
 KeepPlaces old (row ∷ rows) [] = ⊥
@@ -45,18 +45,18 @@ KeepPlaces old (row ∷ rows) (None ∷ places) = KeepPlaces old rows places
 KeepPlaces old (row ∷ rows) (Some place ∷ places) = StandsBelow row place (rows_of old.shape) old.places × KeepPlaces old rows places
 
 -- a node that has a place has no child without one; these nodes wait for their parents, the last one first
-abbrev pub are_placed_below : List (Option Place) → List ListedNode → List (Option Place) → Bool
+abbrev pub are_placed_below : List (Option IndexNodePlace) → List ListedNode → List (Option IndexNodePlace) → Bool
 are_placed_below waiting [] places = true
 are_placed_below waiting (first ∷ nodes) [] = true
 are_placed_below waiting (first ∷ nodes) (at ∷ places) =
     let others = length waiting - (if first.level == 0 then 0 else first.count) in
     (not (is_some at) || list_all (λ o. is_some o) (drop others waiting)) && are_placed_below (take others waiting ++ at ∷ []) nodes places
 
-abbrev pub has_placed_children : Index → Bool
+abbrev pub has_placed_children : StoreIndex → Bool
 has_placed_children index = are_placed_below [] (written_nodes index.shape) index.places
 
 -- The index of these leaves, after so many nodes were put: it weighs at most so much more, each node has a place or none yet, and one that changed has lost its place, as those above it.
-pub record IsIndexAfter (m : Store) (nodes : ℕ) (live : List Kept) (index : Index) : Type 0 where
+pub record IsIndexAfter (m : Store) (nodes : ℕ) (live : List Kept) (index : StoreIndex) : Type 0 where
   pub contents_are : contents index.shape ≡ map (λ x. x.leaf) live
   pub weight : shape_weight m.geo.fanout index.shape ≤ shape_weight m.geo.fanout m.index.shape + nodes
   pub all : length index.places ≡ node_count index.shape
@@ -89,7 +89,7 @@ AreGroup (c ∷ next ∷ group) = AreInGroup (c ∷ next ∷ group)
 -- a node of the grammar that carries its change
 pub record IsCarried (c : Carried) : Type 0 where
   pub node : IsLeaf c.placed.node
-  pub carries : Carries c.change c.placed.node
+  pub carries : ShowsChange c.change c.placed.node
 
 -- no number is skipped: the first is the one behind the last that was given, and each is followed by the next
 abbrev pub AreConsecutive : ℕ → Numbered → Type 0
@@ -109,26 +109,26 @@ pub record KeepsProper (tree : Tree) (group : List Change) : Type 0 where
   pub proper : IsProper (apply tree group)
 
 -- A group that can be put: at the end of its head, with the next numbers. It leaves a proper tree. The base takes any group, the head of data takes blocks alone.
-pub record IsPart (m : Store) (part : Part) : Type 0 where
+pub record IsLegalPart (m : Store) (part : Part) : Type 0 where
   pub head : (part.head ≡ base_head) ⊎ (part.head ≡ data_head)
   pub data_nodes : part.head ≡ data_head → IsTrue (list_all is_block (changes_of part.group))
   pub group : AreGroup part.group
-  pub numbers : AreConsecutive m.sqnum (numbered part.group)
+  pub numbers : AreConsecutive m.sqnum (numbered_group part.group)
   pub carried : AllByRecursion IsCarried part.group
   pub fits : FitHead m (end_at m.ends part.head) (map (λ c. c.placed) part.group)
   pub keeps : KeepsProper m.tree (changes_of part.group)
 
-abbrev pub AreParts : Store → List Part → Type 0
-AreParts m [] = Unit {0}
-AreParts m (part ∷ parts) = IsPart m part × AreParts (after_part m part) parts
+abbrev pub AreLegalParts : Store → List Part → Type 0
+AreLegalParts m [] = Unit {0}
+AreLegalParts m (part ∷ parts) = IsLegalPart m part × AreLegalParts (after_part m part) parts
 
 -- the nodes of a put
-abbrev pub nodes_of : List Part → List Placed
-nodes_of parts = flat_map (λ part. map (λ c. c.placed) part.group) parts
+abbrev pub nodes_of_parts : List Part → List Placed
+nodes_of_parts parts = flat_map (λ part. map (λ c. c.placed) part.group) parts
 
 -- what was granted to a group, as the need that was admitted
-abbrev pub need_of : Grant → Need
-need_of grant = record { credits = 0; bytes = grant.bytes; nodes = grant.nodes; class = Removal }
+abbrev pub need_of_grant : Grant → Need
+need_of_grant grant = record { credits = 0; bytes = grant.bytes; nodes = grant.nodes; class = Removal }
 
 -- two nodes are paid by a credit, others by what was granted
 abbrev pub IsPaid : Store → Payment → List Placed → Type 0
@@ -136,9 +136,9 @@ IsPaid m credit nodes = (1 ≤ m.credits) × (length nodes ≤ 2) × (nodes_len 
 IsPaid m granted nodes = (grant : Grant) × (m.grant ≡ Some grant) × (length nodes ≤ grant.nodes) × (nodes_len nodes ≤ grant.bytes)
 
 pub record CanPut (m : Store) (p : Putting) : Type 0 where
-  pub parts : AreParts m p.parts
-  pub paid : IsPaid m p.payment (nodes_of p.parts)
-  pub index : IsIndexAfter m (length (nodes_of p.parts)) (put p m).live p.index
+  pub parts : AreLegalParts m p.parts
+  pub paid : IsPaid m p.payment (nodes_of_parts p.parts)
+  pub index : IsIndexAfter m (length (nodes_of_parts p.parts)) (put p m).live p.index
   pub settled : IsStoreSettled (put p m)
 
 -- ---- other events
@@ -197,7 +197,7 @@ pub record CanMove (m : Store) (c : Copying) : Type 0 where
 
 -- all groups and copies are synced, and nothing is held
 pub record IsAllSynced (m : Store) : Type 0 where
-  pub counts : m.synced ≡ counts_of m.now.buds
+  pub counts : m.synced ≡ head_counts m.now.buds
   pub none_held : m.held ≡ []
   pub orphans : IsTrue (list_all (λ orphan. orphan.synced) m.orphans)
 
@@ -234,7 +234,7 @@ IfRunning m P = by m.next
 abbrev pub is_orphan : Store → ℕ → Bool
 is_orphan m ino = list_any (λ orphan. orphan.ino == ino) m.orphans
 
-pub record CanDrop (m : Store) (ino : ℕ) (index : Index) : Type 0 where
+pub record CanDrop (m : Store) (ino : ℕ) (index : StoreIndex) : Type 0 where
   pub orphan : IsTrue (is_orphan m ino)
   pub number : 1 ≤ ino
   pub index_is : IsIndexAfter m 0 (drop_inode ino index m).live index
@@ -253,6 +253,6 @@ IsLegalEvent m End = IfRunning m (λ next. next.offered ≡ true)
 IsLegalEvent m (Drop ino index) = CanDrop m ino index
 
 -- each event may come where it does
-abbrev pub AreLegal : Store → List Event → Type 0
-AreLegal m [] = Unit {0}
-AreLegal m (event ∷ events) = IsLegalEvent m event × AreLegal (after event m) events
+abbrev pub AreEventsLegal : Store → List Event → Type 0
+AreEventsLegal m [] = Unit {0}
+AreEventsLegal m (event ∷ events) = IsLegalEvent m event × AreEventsLegal (after event m) events

@@ -10,7 +10,7 @@ use Rattle.fs_model.specs.Files.{Tree}
 use Rattle.leaf_map.specs.Kept.{Kept, Placed}
 
 -- where a node of the index stands
-pub record Place : Type 0 where
+pub record IndexNodePlace : Type 0 where
   pub lnum : ℕ
   pub offs : ℕ
 
@@ -18,7 +18,7 @@ pub record Place : Type 0 where
 pub record Branching : Type 0 where
   pub sqnum : ℕ
   pub node : ListedNode
-  pub below : List Place
+  pub below : List IndexNodePlace
 
 -- what a main LEB is meant to hold, one behind another: leaf nodes, index nodes, and gaps of so many bytes
 pub data Item : Type 0 where
@@ -53,7 +53,7 @@ pub record View : Type 0 where
   pub section : ℕ
   -- its index, and where the nodes stand, in the order in which a commit writes them (`written_nodes`)
   pub shape : Shape
-  pub places : List Place
+  pub places : List IndexNodePlace
   -- its leaves with the nodes that stood there, and the tree, when its commit began
   pub kept : List Kept
   pub tree : Tree
@@ -90,14 +90,14 @@ pub record Orphan : Type 0 where
   pub synced : Bool
 
 -- where the log ends: a LEB of the log, counted from its first, and how many bytes of it are written
-pub record LogAt : Type 0 where
+pub record LogPlace : Type 0 where
   pub leb : ℕ
   pub offs : ℕ
 
 -- The index as it is: a node without a place isn't written yet, nor being written.
-pub record Index : Type 0 where
+pub record StoreIndex : Type 0 where
   pub shape : Shape
-  pub places : List (Option Place)
+  pub places : List (Option IndexNodePlace)
 
 pub record Store : Type 0 where
   pub geo : RawGeometry
@@ -106,7 +106,7 @@ pub record Store : Type 0 where
   pub next : Option Next
   -- the files, as they are, and the index that has them
   pub tree : Tree
-  pub index : Index
+  pub index : StoreIndex
   -- its leaves with their nodes, and the leaves that groups made obsolete which aren't synced
   pub live : List Kept
   pub held : List Kept
@@ -119,7 +119,7 @@ pub record Store : Type 0 where
   -- the list of orphans on the medium, and the orphans closed since the last commit's start, ended or not, that its list names
   pub listed : List ℕ
   pub closed : List ℕ
-  pub log : LogAt
+  pub log : LogPlace
   -- the greatest sequence number that was given
   pub sqnum : ℕ
   -- what was granted: credits for pages, and the next group's bytes and nodes

@@ -5,8 +5,8 @@ use Rattle.ubifs_base.specs.declared.raw_geometry.RawGeometry.{RawGeometry}
 use Rattle.fs_model.specs.Cover.{round_8}
 use Rattle.group_nodes.specs.Texts.{leaf_len}
 use Rattle.leaf_map.specs.Kept.{Placed}
-use Rattle.store_model.specs.Fits.{nodes_in}
-use Rattle.store_model.specs.Heads.{copies_of, groups_of}
+use Rattle.store_model.specs.Fits.{nodes_of_groups}
+use Rattle.store_model.specs.Heads.{copies_of, groups_of_head}
 use Rattle.store_model.specs.Legal.{are_distinct}
 use Rattle.store_model.specs.Store.{At, Bud, Item, leaf, branching, gap, Leb, Next, Store}
 
@@ -56,7 +56,7 @@ nodes_from from nodes = filter (λ placed. nat_le from placed.offs) nodes
 
 -- what was put to a bud, oldest first: copies at head 0, and groups at the others
 abbrev pub bud_nodes : Bud → List Placed
-bud_nodes bud = if bud.head == 0 then bud.copies else nodes_in bud.groups
+bud_nodes bud = if bud.head == 0 then bud.copies else nodes_of_groups bud.groups
 
 -- what was put to a bud is what its LEB has from where the bud begins
 pub record IsBudIn (lebs : List Leb) (bud : Bud) : Type 0 where
@@ -81,17 +81,17 @@ IsEnd geo lebs (Some at) = (at.offs ≡ items_len (text_in lebs at.lnum)) × (at
 -- the nodes of a head's first groups, or copies, as many as are synced
 abbrev pub synced_nodes : List ℕ → List Bud → ℕ → List Placed
 synced_nodes synced buds zero = take (get_or synced 0 0) (copies_of buds)
-synced_nodes synced buds (suc head) = nodes_in (take (get_or synced (suc head) 0) (groups_of (suc head) buds))
+synced_nodes synced buds (suc head) = nodes_of_groups (take (get_or synced (suc head) 0) (groups_of_head (suc head) buds))
 
 -- a node that stands in a LEB ends at an offset, or before it
 abbrev pub ends_by : ℕ → ℕ → Placed → Bool
 ends_by lnum offs placed = not (placed.lnum == lnum) || nat_le (placed.offs + round_8 placed.len) offs
 
 -- these nodes of each head, from one on, are written where it is open
-abbrev pub AreWritten : (ℕ → List Placed) → ℕ → List (Option At) → Type 0
-AreWritten nodes head [] = Unit {0}
-AreWritten nodes head (None ∷ ends) = AreWritten nodes (head + 1) ends
-AreWritten nodes head (Some at ∷ ends) = IsTrue (list_all (ends_by at.lnum at.written) (nodes head)) × AreWritten nodes (head + 1) ends
+abbrev pub AreHeadsWritten : (ℕ → List Placed) → ℕ → List (Option At) → Type 0
+AreHeadsWritten nodes head [] = Unit {0}
+AreHeadsWritten nodes head (None ∷ ends) = AreHeadsWritten nodes (head + 1) ends
+AreHeadsWritten nodes head (Some at ∷ ends) = IsTrue (list_all (ends_by at.lnum at.written) (nodes head)) × AreHeadsWritten nodes (head + 1) ends
 
 -- ---- all of them
 -- Nodes stand in the texts of LEBs one behind another, what was put to a bud is what its LEB has, heads end where their LEBs' texts end, and what is synced is written.
@@ -100,4 +100,4 @@ pub record AreTexts (m : Store) : Type 0 where
   pub buds : AreBudsIn m.lebs m.now.buds
   pub later : AreNextBudsIn m.lebs m.next
   pub ends : AllByRecursion (IsEnd m.geo m.lebs) m.ends
-  pub written : AreWritten (synced_nodes m.synced m.now.buds) 0 m.ends
+  pub written : AreHeadsWritten (synced_nodes m.synced m.now.buds) 0 m.ends

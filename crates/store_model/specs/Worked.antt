@@ -16,39 +16,39 @@ use Rattle.leaf_map.specs.Parts.{Committed, Parts}
 use Rattle.leaf_map.specs.Recovered.{recovered_of}
 use Rattle.leaf_map.specs.Worked.{am, at, bb, file, name, root}
 use Rattle.store_model.specs.Events.{Begin, Copying, credit, Drop, End, Event, Free, granted, Move, node_items, Offer, Open, Payment, Put, Putting, Start, Sync, view_branchings, Write}
-use Rattle.store_model.specs.Fits.{named_by, read_nodes}
+use Rattle.store_model.specs.Fits.{named_by_log, read_nodes}
 use Rattle.store_model.specs.Heads.{copies_of, heads_of}
-use Rattle.store_model.specs.Store.{Bud, Carried, Index, Item, leaf, Leb, Store, View}
+use Rattle.store_model.specs.Store.{Bud, Carried, StoreIndex, Item, leaf, Leb, Store, View}
 
 -- 174 index nodes go into a LEB, and the main area is LEBs 20 to 31
 abbrev pub geo : RawGeometry
 geo = record { leb_size = 15360; min_io = 8; log_lebs = 3; lpt_lebs = 13; orph_lebs = 1; leb_cnt = 32; max_leb_cnt = 32; fanout = 3; lsave_cnt = 0; big = false }
 
 -- an index of one node, above these leaves
-abbrev pub shape_of : List Kept → Shape
-shape_of kept = node (leaves_before (map (λ x. x.leaf) kept) done) done
+abbrev pub shape_above : List Kept → Shape
+shape_above kept = node (leaves_before (map (λ x. x.leaf) kept) done) done
 
-abbrev pub changed_index : List Kept → Index
-changed_index kept = record { shape = shape_of kept; places = None ∷ [] }
+abbrev pub changed_index : List Kept → StoreIndex
+changed_index kept = record { shape = shape_above kept; places = None ∷ [] }
 
 -- a LEB with these items
 abbrev pub leb : ℕ → LebKind → List Item → Leb
 leb lnum role text = record { lnum = lnum; role = role; text = text }
 
 -- the root's leaf, in LEB 20
-abbrev pub root_node : Placed
-root_node = at 20 0 1 root
+abbrev pub sample_root_node : Placed
+sample_root_node = at 20 0 1 root
 
 abbrev pub root_tree : Tree
 root_tree = record { inodes = (1, new_dir 493 0) ∷ []; blocks = []; entries = []; highest = 64 }
 
 -- what a view has where these leaves were committed at the start of a store
-abbrev pub view_of : List Kept → Tree → View
-view_of kept tree = record {
+abbrev pub committed_view : List Kept → Tree → View
+committed_view kept tree = record {
   cmt_no = 0;
   highest = tree.highest;
   section = 0;
-  shape = shape_of kept;
+  shape = shape_above kept;
   places = (record { lnum = 21; offs = 0 }) ∷ [];
   kept = kept;
   tree = tree;
@@ -57,18 +57,18 @@ view_of kept tree = record {
 }
 
 -- a store to which nothing was put: its leaves stand in LEB 20, its index in LEB 21, and ten LEBs are empty
-abbrev pub opened : List Placed → Tree → Store
-opened nodes tree = record {
+abbrev pub opened_store : List Placed → Tree → Store
+opened_store nodes tree = record {
   geo = geo;
-  now = view_of (map kept_at nodes) tree;
+  now = committed_view (map kept_at nodes) tree;
   next = None;
   tree = tree;
-  index = record { shape = shape_of (map kept_at nodes); places = Some (record { lnum = 21; offs = 0 }) ∷ [] };
+  index = record { shape = shape_above (map kept_at nodes); places = Some (record { lnum = 21; offs = 0 }) ∷ [] };
   live = map kept_at nodes;
   held = [];
   ends = None ∷ None ∷ None ∷ [];
   synced = 0 ∷ 0 ∷ 0 ∷ [];
-  lebs = leb 20 kind.Leaf (map leaf nodes) ∷ leb 21 kind.Index (flat_map (node_items geo) (view_branchings (view_of (map kept_at nodes) tree) 21 4)) ∷ map (λ lnum. leb lnum kind.Free []) (22 ∷ 23 ∷ 24 ∷ 25 ∷ 26 ∷ 27 ∷ 28 ∷ 29 ∷ 30 ∷ 31 ∷ []);
+  lebs = leb 20 kind.Leaf (map leaf nodes) ∷ leb 21 kind.Index (flat_map (node_items geo) (view_branchings (committed_view (map kept_at nodes) tree) 21 4)) ∷ map (λ lnum. leb lnum kind.Free []) (22 ∷ 23 ∷ 24 ∷ 25 ∷ 26 ∷ 27 ∷ 28 ∷ 29 ∷ 30 ∷ 31 ∷ []);
   moving = None;
   orphans = [];
   listed = [];
@@ -79,8 +79,8 @@ opened nodes tree = record {
   grant = Some (record { bytes = 4096; nodes = 8 });
 }
 
-abbrev pub rooted : Store
-rooted = opened (root_node ∷ []) root_tree
+abbrev pub rooted_store : Store
+rooted_store = opened_store (sample_root_node ∷ []) root_tree
 
 -- a change with its node, at a place
 abbrev pub carry : ℕ → ℕ → ℕ → Change → Carried
@@ -110,7 +110,7 @@ abbrev pub am_inode : Carried
 am_inode = in_group 2 (carry 22 64 13 (SetInode 65 (file 1)))
 
 abbrev pub am_leaves : List Kept
-am_leaves = map kept_at (root_node ∷ am_entry.placed ∷ am_inode.placed ∷ [])
+am_leaves = map kept_at (sample_root_node ∷ am_entry.placed ∷ am_inode.placed ∷ [])
 
 abbrev pub putting_am : Putting
 putting_am = put_of granted (am_entry ∷ am_inode ∷ []) am_leaves
@@ -126,7 +126,7 @@ abbrev pub unlinking : List Carried
 unlinking = in_group 1 (carry 22 224 14 (DropEntry 1 am)) ∷ in_group 2 (carry 22 288 15 (SetInode 65 (file 0))) ∷ []
 
 abbrev pub unlinked_leaves : List Kept
-unlinked_leaves = map kept_at (root_node ∷ at 22 288 15 (SetInode 65 (file 0)) ∷ [])
+unlinked_leaves = map kept_at (sample_root_node ∷ at 22 288 15 (SetInode 65 (file 0)) ∷ [])
 
 -- the root's inode is put anew, so that no live leaf is left in LEB 20
 abbrev pub put_root : List Event
@@ -142,7 +142,7 @@ abbrev pub left_parts : View → ℕ → ℕ → List ℕ → Parts
 left_parts view base copies listed = record {
   highest = view.highest;
   committed = map (read_leaf view.buds) view.kept;
-  named = map named_by view.buds;
+  named = map named_by_log view.buds;
   nodes = read_nodes view.buds base 0;
   copies = take copies (copies_of view.buds);
   listed = listed;
@@ -153,8 +153,8 @@ abbrev pub places_found : Parts → List (ℕ × ℕ)
 places_found parts = map (λ x. (x.leaf.lnum, x.leaf.offs)) (recovered_of parts).kept
 
 -- the tree that is allowed where so many groups of the base are left
-abbrev pub allowed : View → ℕ → Tree
-allowed view base = recovered view.tree (taken (heads_of view.buds (0 ∷ 0 ∷ 0 ∷ [])) (0 ∷ base ∷ 0 ∷ []))
+abbrev pub allowed_tree : View → ℕ → Tree
+allowed_tree view base = recovered view.tree (taken (heads_of view.buds (0 ∷ 0 ∷ 0 ∷ [])) (0 ∷ base ∷ 0 ∷ []))
 
 -- ---- a commit with a put inside
 -- a file `bb` is made while a commit runs, behind `am`
@@ -165,7 +165,7 @@ abbrev pub bb_inode : Carried
 bb_inode = in_group 2 (carry 22 288 17 (SetInode 66 (file 1)))
 
 abbrev pub bb_leaves : List Kept
-bb_leaves = map kept_at (root_node ∷ am_entry.placed ∷ bb_entry.placed ∷ am_inode.placed ∷ bb_inode.placed ∷ [])
+bb_leaves = map kept_at (sample_root_node ∷ am_entry.placed ∷ bb_entry.placed ∷ am_inode.placed ∷ bb_inode.placed ∷ [])
 
 abbrev pub bb_tree : Tree
 bb_tree = record {
@@ -201,7 +201,7 @@ abbrev pub file_node : Placed
 file_node = at 20 224 3 (SetInode 65 (file 1))
 
 abbrev pub one_file : Store
-one_file = opened (root_node ∷ file_entry ∷ file_node ∷ []) am_tree
+one_file = opened_store (sample_root_node ∷ file_entry ∷ file_node ∷ []) am_tree
 
 abbrev pub root_copy : Placed
 root_copy = at 24 0 1 root
@@ -217,7 +217,7 @@ abbrev pub moving_to : Placed → Placed → List Placed → Copying
 moving_to original copy live = record { leaf = kept_at original; copy = copy; index = changed_index (map kept_at live) }
 
 abbrev pub moving_root : Copying
-moving_root = moving_to root_node root_copy (root_copy ∷ file_entry ∷ file_node ∷ [])
+moving_root = moving_to sample_root_node root_copy (root_copy ∷ file_entry ∷ file_node ∷ [])
 
 abbrev pub moving_entry : Copying
 moving_entry = moving_to file_entry entry_copy (root_copy ∷ entry_copy ∷ file_node ∷ [])
@@ -231,12 +231,12 @@ half_collected = Begin 20 ∷ Open 0 24 ∷ Move moving_root ∷ Sync ∷ []
 abbrev pub all_copied : List Event
 all_copied = Begin 20 ∷ Open 0 24 ∷ Move moving_root ∷ Move moving_entry ∷ Move moving_file ∷ Sync ∷ []
 
-abbrev pub collected : List Event
-collected = Begin 20 ∷ Open 0 24 ∷ Move moving_root ∷ Move moving_entry ∷ Move moving_file ∷ Sync ∷ Free ∷ []
+abbrev pub collected_events : List Event
+collected_events = Begin 20 ∷ Open 0 24 ∷ Move moving_root ∷ Move moving_entry ∷ Move moving_file ∷ Sync ∷ Free ∷ []
 
 -- ---- an orphan that is closed while a commit runs
 -- file 65 loses its name and is synced, a commit starts whose list has it, and the file is closed before the commit ends
 abbrev pub closed_in_commit : List Event
 closed_in_commit =
     Open 1 22 ∷ Put putting_am ∷ putting_next unlinking unlinked_leaves ∷ Sync
-    ∷ Start (23 ∷ []) ∷ Drop 65 (changed_index (map kept_at (root_node ∷ []))) ∷ Write ∷ Offer ∷ End ∷ []
+    ∷ Start (23 ∷ []) ∷ Drop 65 (changed_index (map kept_at (sample_root_node ∷ []))) ∷ Write ∷ Offer ∷ End ∷ []

@@ -11,25 +11,25 @@ use Rattle.leaf_map.specs.Parts.{Committed, Parts}
 use Rattle.leaf_map.specs.Recovered.{tree_found}
 use Rattle.leaf_map.specs.Worked.{am, at, bb, file, name, root}
 use Rattle.store_model.specs.Events.{Begin, credit, Drop, End, Event, Free, granted, Move, Offer, Open, Payment, Put, run, Start, Sync, Write}
-use Rattle.store_model.specs.Fits.{Faced, faces, named_by, read_nodes}
-use Rattle.store_model.specs.Heads.{copies_of, groups_of}
+use Rattle.store_model.specs.Fits.{Faced, faces, named_by_log, read_nodes}
+use Rattle.store_model.specs.Heads.{copies_of, groups_of_head}
 use Rattle.store_model.specs.Lebs.{has_role, space_of}
-use Rattle.store_model.specs.Store.{Bud, Carried, Index, Store}
-use Rattle.store_model.specs.Worked.{am_entry, am_inode, am_leaves, carry, changed_index, in_group, places_found, read_leaf, root_node, rooted}
+use Rattle.store_model.specs.Store.{Bud, Carried, StoreIndex, Store}
+use Rattle.store_model.specs.Worked.{am_entry, am_inode, am_leaves, carry, changed_index, in_group, places_found, read_leaf, sample_root_node, rooted_store}
 
 -- three credits pay for the groups behind the first
 abbrev pub started : Store
-started = record rooted { credits = 3 }
+started = record rooted_store { credits = 3 }
 
 -- an index of two nodes below a third, above these leaves, with no node written
-abbrev pub two_rows : List Kept → List Kept → Index
+abbrev pub two_rows : List Kept → List Kept → StoreIndex
 two_rows a b = record {
   shape = node (node (leaves_before (map (λ x. x.leaf) a) done) (node (leaves_before (map (λ x. x.leaf) b) done) done)) done;
   places = None ∷ None ∷ None ∷ [];
 }
 
 -- a group that is put to the base, and the index then
-abbrev pub put_to : Payment → List Carried → Index → Event
+abbrev pub put_to : Payment → List Carried → StoreIndex → Event
 put_to payment group index = Put (record { parts = (record { head = 1; group = group }) ∷ []; payment = payment; index = index })
 
 -- a file `bb` is made while the first commit runs
@@ -57,21 +57,21 @@ kept_bb = kept_at entry_bb.placed ∷ kept_at am_inode.placed ∷ kept_at inode_
 abbrev pub first_commit : List (List Event)
 first_commit =
     (Open 1 22 ∷ put_to granted (am_entry ∷ am_inode ∷ []) (changed_index am_leaves) ∷ []) ∷ (Sync ∷ []) ∷ (Start (23 ∷ []) ∷ [])
-    ∷ (put_to credit (entry_bb ∷ inode_bb ∷ []) (two_rows (kept_at root_node ∷ kept_at am_entry.placed ∷ []) kept_bb) ∷ [])
+    ∷ (put_to credit (entry_bb ∷ inode_bb ∷ []) (two_rows (kept_at sample_root_node ∷ kept_at am_entry.placed ∷ []) kept_bb) ∷ [])
     ∷ (Write ∷ []) ∷ (Offer ∷ End ∷ []) ∷ []
 
 abbrev pub copying : List Event
-copying = Begin 20 ∷ Open 0 21 ∷ Move (record { leaf = kept_at root_node; copy = copy_21; index = two_rows (kept_at copy_21 ∷ kept_at am_entry.placed ∷ []) kept_bb }) ∷ []
+copying = Begin 20 ∷ Open 0 21 ∷ Move (record { leaf = kept_at sample_root_node; copy = copy_21; index = two_rows (kept_at copy_21 ∷ kept_at am_entry.placed ∷ []) kept_bb }) ∷ []
 
 abbrev pub collection : List (List Event)
 collection = (copying ++ Sync ∷ Free ∷ []) ∷ []
 
-abbrev pub unlinked : Event
-unlinked = put_to credit (entry_gone ∷ inode_left ∷ []) (two_rows (kept_at copy_21 ∷ []) (kept_at entry_bb.placed ∷ kept_at inode_left.placed ∷ kept_at inode_bb.placed ∷ []))
+abbrev pub unlinking_event : Event
+unlinking_event = put_to credit (entry_gone ∷ inode_left ∷ []) (two_rows (kept_at copy_21 ∷ []) (kept_at entry_bb.placed ∷ kept_at inode_left.placed ∷ kept_at inode_bb.placed ∷ []))
 
 abbrev pub second_commit : List (List Event)
 second_commit =
-    (unlinked ∷ []) ∷ (Sync ∷ []) ∷ (Start (20 ∷ []) ∷ [])
+    (unlinking_event ∷ []) ∷ (Sync ∷ []) ∷ (Start (20 ∷ []) ∷ [])
     ∷ (Drop 65 (two_rows (kept_at copy_21 ∷ []) (kept_at entry_bb.placed ∷ kept_at inode_bb.placed ∷ [])) ∷ [])
     ∷ (Write ∷ []) ∷ (Offer ∷ End ∷ []) ∷ []
 
@@ -96,8 +96,8 @@ named_rows buds = map (λ bud. (bud.head, bud.lnum, bud.from)) buds
 abbrev pub numbers_of : Space → List ℕ
 numbers_of space = space.used ∷ space.held ∷ space.empty ∷ space.index ∷ space.weight ∷ []
 
-abbrev pub row_of : Store → Row
-row_of m = record {
+abbrev pub found_row_of : Store → Row
+found_row_of m = record {
   space = numbers_of (space_of m);
   log = (m.log.leb, m.log.offs);
   sqnum = m.sqnum;
@@ -112,11 +112,11 @@ row_of m = record {
 -- of the state after each stage
 abbrev pub rows : List (List Event) → Store → List Row
 rows [] m = []
-rows (stage ∷ stages) m = row_of (run stage m) ∷ rows stages (run stage m)
+rows (stage ∷ stages) m = found_row_of (run stage m) ∷ rows stages (run stage m)
 
 -- ---- what a cut leaves
 -- what a mount finds: the number of its master's commit, inodes, names, and the places of leaves
-pub record Found : Type 0 where
+pub record MountFinds : Type 0 where
   pub cmt_no : ℕ
   pub inodes : List ℕ
   pub names : List (List ℕ)
@@ -133,13 +133,13 @@ abbrev pub parts_in : Store → Faced → ℕ → ℕ → Parts
 parts_in m f base copies = record {
   highest = f.view.highest;
   committed = map (read_in m f.view.buds) f.view.kept;
-  named = map named_by f.view.buds;
+  named = map named_by_log f.view.buds;
   nodes = read_nodes f.view.buds base 0;
   copies = take copies (copies_of f.view.buds);
   listed = get_or f.lists 0 [];
 }
 
-abbrev pub found_in : Faced → Parts → Found
+abbrev pub found_in : Faced → Parts → MountFinds
 found_in f parts = record {
   cmt_no = f.view.cmt_no;
   inodes = map (λ e. e.0) (tree_found parts).inodes;
@@ -148,19 +148,19 @@ found_in f parts = record {
 }
 
 -- with all that was put
-abbrev pub most : Store → Faced → Found
-most m f = found_in f (parts_in m f (length (groups_of 1 f.view.buds)) (length (copies_of f.view.buds)))
+abbrev pub most : Store → Faced → MountFinds
+most m f = found_in f (parts_in m f (length (groups_of_head 1 f.view.buds)) (length (copies_of f.view.buds)))
 
 -- with what is synced alone
-abbrev pub least : Store → Faced → Found
+abbrev pub least : Store → Faced → MountFinds
 least m f = found_in f (parts_in m f (get_or f.synced 1 0) (get_or f.synced 0 0))
 
 -- with all groups, and the copies that are synced
-abbrev pub uncopied : Store → Faced → Found
-uncopied m f = found_in f (parts_in m f (length (groups_of 1 f.view.buds)) (get_or f.synced 0 0))
+abbrev pub uncopied : Store → Faced → MountFinds
+uncopied m f = found_in f (parts_in m f (length (groups_of_head 1 f.view.buds)) (get_or f.synced 0 0))
 
 -- by each master that may be there, after each stage
-abbrev pub found_rows : List (List Event) → Store → List (List Found)
+abbrev pub found_rows : List (List Event) → Store → List (List MountFinds)
 found_rows [] m = []
 found_rows (stage ∷ stages) m = map (most (run stage m)) (faces (run stage m)) ∷ found_rows stages (run stage m)
 
@@ -170,18 +170,18 @@ run_all [] m = m
 run_all (stage ∷ stages) m = run_all stages (run stage m)
 
 -- ---- the values
-abbrev pub found_root : Found
+abbrev pub found_root : MountFinds
 found_root = record { cmt_no = 0; inodes = 1 ∷ []; names = []; places = (20, 0) ∷ [] }
 
-abbrev pub found_am : Found
+abbrev pub found_am : MountFinds
 found_am = record { cmt_no = 0; inodes = 1 ∷ 65 ∷ []; names = am ∷ []; places = (20, 0) ∷ (22, 0) ∷ (22, 64) ∷ [] }
 
 -- with both files, by the master of this commit, the root's leaf at this place
-abbrev pub found_bb : ℕ → ℕ × ℕ → Found
+abbrev pub found_bb : ℕ → ℕ × ℕ → MountFinds
 found_bb cmt_no place = record { cmt_no = cmt_no; inodes = 1 ∷ 65 ∷ 66 ∷ []; names = am ∷ bb ∷ []; places = place ∷ (22, 0) ∷ (22, 224) ∷ (22, 64) ∷ (22, 288) ∷ [] }
 
 -- with `bb` alone
-abbrev pub found_last : ℕ → Found
+abbrev pub found_last : ℕ → MountFinds
 found_last cmt_no = record { cmt_no = cmt_no; inodes = 1 ∷ 66 ∷ []; names = bb ∷ []; places = (21, 0) ∷ (22, 224) ∷ (22, 288) ∷ [] }
 
 abbrev pub places_am : List (ℕ × ℕ)

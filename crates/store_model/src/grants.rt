@@ -4,10 +4,10 @@ ghost use Rattle.std.specs.Prelude.{ℕ, List};
 ghost use Rattle.space_budget.specs.Books.{AreGrantsCovered};
 ghost use Rattle.store_model.specs.Backing.{book_of};
 ghost use Rattle.store_model.specs.Events.{after, Begin, Copying, Drop, End, Event, Free, Move, Open, Put, Putting, Start, Sync, Write};
-ghost use Rattle.store_model.specs.Invariant.{AreApart, HasFiles, HasNextIndex, IsStore};
+ghost use Rattle.store_model.specs.Invariant.{AreRolesApart, HasFiles, HasNextIndex, IsStore};
 ghost use Rattle.store_model.specs.Lebs.{IsStoreSettled};
 ghost use Rattle.store_model.specs.Legal.{IsLegalEvent};
-ghost use Rattle.store_model.specs.Store.{Index as AnyIndex, Store as AnyStore};
+ghost use Rattle.store_model.specs.Store.{StoreIndex as AnyIndex, Store as AnyStore};
 
 use crate::law::{a_put_spends_what_was_granted, bytes_follow_the_leaves};
 use space_sums::{
@@ -19,11 +19,11 @@ use space_sums::{
 /// neither bytes nor weight grow where a LEB is opened, all is synced, an inode goes, a victim is freed or a commit starts.
 pub fn what_was_granted_stays_covered()
     ensures put { (m : AnyStore) (p : Putting) → IsLegalEvent m (Put p) → HasFiles m → AreGrantsCovered (book_of m) → AreGrantsCovered (book_of (after (Put p) m)) }
-    ensures opened { (m : AnyStore) (head lnum : ℕ) → IsLegalEvent m (Open head lnum) → AreApart m → AreGrantsCovered (book_of m) → AreGrantsCovered (book_of (after (Open head lnum) m)) }
+    ensures opened { (m : AnyStore) (head lnum : ℕ) → IsLegalEvent m (Open head lnum) → AreRolesApart m → AreGrantsCovered (book_of m) → AreGrantsCovered (book_of (after (Open head lnum) m)) }
     ensures synced { (m : AnyStore) → AreGrantsCovered (book_of m) → AreGrantsCovered (book_of (after Sync m)) }
     ensures dropped { (m : AnyStore) (ino : ℕ) (index : AnyIndex) → IsLegalEvent m (Drop ino index) → HasFiles m → AreGrantsCovered (book_of m) → AreGrantsCovered (book_of (after (Drop ino index) m)) }
-    ensures freed { (m : AnyStore) → IsLegalEvent m Free → AreApart m → AreGrantsCovered (book_of m) → AreGrantsCovered (book_of (after Free m)) }
-    ensures started { (m : AnyStore) (taken : List ℕ) → IsLegalEvent m (Start taken) → AreApart m → AreGrantsCovered (book_of m) → AreGrantsCovered (book_of (after (Start taken) m)) }
+    ensures freed { (m : AnyStore) → IsLegalEvent m Free → AreRolesApart m → AreGrantsCovered (book_of m) → AreGrantsCovered (book_of (after Free m)) }
+    ensures started { (m : AnyStore) (taken : List ℕ) → IsLegalEvent m (Start taken) → AreRolesApart m → AreGrantsCovered (book_of m) → AreGrantsCovered (book_of (after (Start taken) m)) }
 {
     a_put_spends_what_was_granted();
     bytes_follow_the_leaves();
@@ -38,7 +38,7 @@ pub fn a_store_stays_settled()
     ensures dropped { (m : AnyStore) (ino : ℕ) (index : AnyIndex) → IsStoreSettled m → IsStoreSettled (after (Drop ino index) m) }
     ensures begun { (m : AnyStore) (victim : ℕ) → IsLegalEvent m (Begin victim) → IsStoreSettled m → IsStoreSettled (after (Begin victim) m) }
     ensures moved { (m : AnyStore) (c : Copying) → IsStoreSettled m → IsStoreSettled (after (Move c) m) }
-    ensures freed { (m : AnyStore) → AreApart m → IsStoreSettled m → IsStoreSettled (after Free m) }
+    ensures freed { (m : AnyStore) → AreRolesApart m → IsStoreSettled m → IsStoreSettled (after Free m) }
 {}
 
 /// The writing of a running commit's LEBs changes no number that admission reckons with: what was granted stays covered, and the store

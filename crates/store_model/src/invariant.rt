@@ -6,7 +6,7 @@ ghost use Rattle.index_tree.specs.Shape.{node_count};
 ghost use Rattle.fs_model.specs.Orphan.{nameless};
 ghost use Rattle.fs_model.specs.Proper.{IsProper};
 ghost use Rattle.store_model.specs.Events.{after, Event, Offer, Put, Putting, Start};
-ghost use Rattle.store_model.specs.Invariant.{AreProper, AreWholeOrLeft, HasOrphans, HasViews, IsLight, IsStore, LeadsTo, OfBoth};
+ghost use Rattle.store_model.specs.Invariant.{AreProper, AreWholeOrLeft, HasListedOrphans, HasViews, IsLight, IsStore, LeadsTo, OfBoth};
 ghost use Rattle.store_model.specs.Legal.{IsLegalEvent};
 ghost use Rattle.store_model.specs.Store.{Store as AnyStore};
 
@@ -20,7 +20,7 @@ use leaf_map::{leaves_stay_distinct, the_last_change_wins};
 /// Each event keeps it that committed inodes without links are listed. A put revives and drops none, one that is closed is noted, and a
 /// commit's list has those that have no name or were closed.
 pub fn each_event_keeps_the_orphans()
-    ensures { (m : AnyStore) (event : Event) → IsLegalEvent m event → IsStore m → HasOrphans (after event m) }
+    ensures { (m : AnyStore) (event : Event) → IsLegalEvent m event → IsStore m → HasListedOrphans (after event m) }
 {}
 
 /// Each event keeps it that the index weighs no more than a view's, when its commit began, and the nodes that were put since.

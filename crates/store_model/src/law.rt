@@ -16,9 +16,9 @@ ghost use Rattle.store_model.specs.Backing.{Outside, backing_of};
 ghost use Rattle.store_model.specs.Events.{after, Begin, Copying, credit, Drop, End, Event, Free, granted, Move, nodes_len, Offer, Open, Put, Putting, Start, Sync, Write};
 ghost use Rattle.store_model.specs.Invariant.{AreOwned, HasDataHead, HasFiles, HasNumbers, HasViews, OfBoth};
 ghost use Rattle.store_model.specs.Lebs.{IsStoreSettled, lent, space_of};
-ghost use Rattle.store_model.specs.Legal.{IsAllSynced, IsLeafOf, IsLegalEvent, KeepsProper, need_of, nodes_of};
+ghost use Rattle.store_model.specs.Legal.{IsAllSynced, IsLeafOf, IsLegalEvent, KeepsProper, need_of_grant, nodes_of_parts};
 ghost use Rattle.store_model.specs.LogRing.{HasLogLebs};
-ghost use Rattle.store_model.specs.Store.{Index as AnyIndex, Store as AnyStore};
+ghost use Rattle.store_model.specs.Store.{StoreIndex as AnyIndex, Store as AnyStore};
 
 use fs_laws::trees_built_alike_are_proper;
 use leaf_map::{
@@ -131,7 +131,7 @@ pub fn a_put_leaves_a_proper_tree()
 
 /// A put skips no number: the last one that was given rises by its nodes.
 pub fn a_put_skips_no_number()
-    ensures { (m : AnyStore) (p : Putting) → IsLegalEvent m (Put p) → (after (Put p) m).sqnum ≡ m.sqnum + length (nodes_of p.parts) }
+    ensures { (m : AnyStore) (p : Putting) → IsLegalEvent m (Put p) → (after (Put p) m).sqnum ≡ m.sqnum + length (nodes_of_parts p.parts) }
 {}
 
 /// A put and a LEB that is opened leave a store from which a commit can start and end.
@@ -158,7 +158,7 @@ pub fn a_lent_leb_comes_back()
 /// an opened LEB changes neither; a sync holds nothing and uses what was used.
 pub fn bytes_follow_the_leaves()
     ensures put { (m : AnyStore) (p : Putting) → IsLegalEvent m (Put p) → HasFiles m
-        → (space_of (after (Put p) m)).used + (space_of (after (Put p) m)).held ≤ (space_of m).used + (space_of m).held + nodes_len (nodes_of p.parts) }
+        → (space_of (after (Put p) m)).used + (space_of (after (Put p) m)).held ≤ (space_of m).used + (space_of m).held + nodes_len (nodes_of_parts p.parts) }
     ensures dropped { (m : AnyStore) (ino : ℕ) (index : AnyIndex) → IsLegalEvent m (Drop ino index) → HasFiles m
         → (space_of (after (Drop ino index) m)).used + (space_of (after (Drop ino index) m)).held ≤ (space_of m).used + (space_of m).held }
     ensures opened_used { (m : AnyStore) (head lnum : ℕ) → (space_of (after (Open head lnum) m)).used ≡ (space_of m).used }
@@ -175,7 +175,7 @@ pub fn bytes_follow_the_leaves()
 pub fn a_put_spends_what_was_granted()
     ensures page { (m : AnyStore) (p : Putting) → IsLegalEvent m (Put p) → HasFiles m → p.payment ≡ credit → IsAfterPage (space_of m) (space_of (after (Put p) m)) }
     ensures group { (m : AnyStore) (p : Putting) (grant : AnyGrant) → IsLegalEvent m (Put p) → HasFiles m → p.payment ≡ granted → m.grant ≡ Some grant
-        → IsAfterGroup (need_of grant) (space_of m) (space_of (after (Put p) m)) }
+        → IsAfterGroup (need_of_grant grant) (space_of m) (space_of (after (Put p) m)) }
 {
     a_change_of_leaves_is_one_of_the_tree();
     bytes_of_leaves_add_up();

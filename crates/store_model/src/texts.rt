@@ -4,9 +4,9 @@ ghost use Rattle.std.specs.List.{AllByRecursion};
 ghost use Rattle.std.specs.Prelude.{ℕ};
 ghost use Rattle.store_model.specs.Events.{after, Begin, Copying, Drop, End, Event, Free, Move, Offer, Open, Put, Putting, Sync};
 ghost use Rattle.store_model.specs.Indexed.{IsIndexed};
-ghost use Rattle.store_model.specs.Invariant.{AreOfViews, IsStore, Stands};
+ghost use Rattle.store_model.specs.Invariant.{AreOfViews, IsStore, LeafStands};
 ghost use Rattle.store_model.specs.Legal.{IsLegalEvent};
-ghost use Rattle.store_model.specs.Store.{Index as AnyIndex, Store as AnyStore};
+ghost use Rattle.store_model.specs.Store.{StoreIndex as AnyIndex, Store as AnyStore};
 ghost use Rattle.store_model.specs.Texts.{AreTexts};
 
 /// A put, a LEB that is opened, a sync and an inode that is dropped keep what stands in texts. Nodes stand where they tell, a bud's
@@ -43,5 +43,5 @@ pub fn leaves_are_of_the_views()
 
 /// After each event each live leaf's node is among the items that are meant for its LEB. A leaf that is copied stands at its copy.
 pub fn live_leaves_stand()
-    ensures { (m : AnyStore) (event : Event) → IsLegalEvent m event → IsStore m → AllByRecursion (Stands (after event m).lebs) (after event m).live }
+    ensures { (m : AnyStore) (event : Event) → IsLegalEvent m event → IsStore m → AllByRecursion (LeafStands (after event m).lebs) (after event m).live }
 {}

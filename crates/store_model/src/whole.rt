@@ -4,7 +4,7 @@ ghost use Rattle.std.specs.Prelude.{ℕ};
 ghost use Rattle.store_model.specs.Events.{after, Begin, Drop, Event, Offer, Open, Sync};
 ghost use Rattle.store_model.specs.Invariant.{HasRest, IsStore};
 ghost use Rattle.store_model.specs.Legal.{IsLegalEvent};
-ghost use Rattle.store_model.specs.Store.{Index as AnyIndex, Store as AnyStore};
+ghost use Rattle.store_model.specs.Store.{StoreIndex as AnyIndex, Store as AnyStore};
 
 use crate::accounts::{
     each_event_keeps_what_is_gone, each_event_leaves_lebs_whole_or_left,

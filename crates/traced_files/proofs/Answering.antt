@@ -29,7 +29,7 @@ use Rattle.vfs_plans.specs.Answers.{IsFault}
 use Rattle.vfs_ops.specs.Operations.{has_group, is_of_names}
 use Rattle.vfs_ops.specs.Replies.{IsAlikeOutcome}
 use Rattle.vfs_ops.specs.Steps.{IsTurnedDown, IsUnsynced, allowed, is_write, no_space_in}
-use Rattle.traced_files.specs.History.{IsAsked}
+use Rattle.traced_files.specs.History.{IsRoomAsked}
 
 -- an outcome that was let through is the plain one
 within_done : (room limit : ℕ) (files : Files) (o : Outcome) (x : Reply × Files) → within_orphans room limit files o ≡ Ok x → o ≡ Ok x
@@ -165,7 +165,7 @@ abbrev pub tells_room : Reply → Bool
 tells_room (Refused (Enospc sides)) = true
 tells_room reply = false
 
-pub asked_none : (line : TraceLine) → tells_room line.reply ≡ false → IsAsked line
+pub asked_none : (line : TraceLine) → tells_room line.reply ≡ false → IsRoomAsked line
 asked_none line e sides told = absurd (false≢true (sym e ∙ ap tells_room told))
 
 -- what changes something and is no sync writes, or has a group

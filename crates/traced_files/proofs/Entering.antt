@@ -9,7 +9,7 @@ use Rattle.trace_word.specs.Knowledge.{lines_of}
 use Rattle.vfs_ops.specs.FilesState.{FilesState}
 use Rattle.traced_files.specs.Calls.{IsEntered}
 use Rattle.traced_files.specs.Start.{IsHistoryFrom, Start}
-use Rattle.traced_files.specs.States.{PassState}
+use Rattle.traced_files.specs.States.{TracedPassState}
 
 get_last : (xs : List TraceLine) (x : TraceLine) (k : ℕ) → k ≡ length xs → slice_get (xs ++ x ∷ []) k ≡ Some x
 get_last [] x zero is = refl
@@ -18,7 +18,7 @@ get_last (y ∷ ys) x zero is = absurd (omega arith)
 get_last (y ∷ ys) x (suc k) is = get_last ys x k (omega arith)
 
 -- what a call leaves, where the trace got its line
-pub entered : (start : Start) (state : FilesState) (old new : PassState) (now : ℕ) (op : Op) (reply : Reply) (trace : List TraceLine) → new.word ≡ old.word → new.pool ≡ old.pool → new.caller ≡ old.caller → new.made ≡ old.made + 1
+pub entered : (start : Start) (state : FilesState) (old new : TracedPassState) (now : ℕ) (op : Op) (reply : Reply) (trace : List TraceLine) → new.word ≡ old.word → new.pool ≡ old.pool → new.caller ≡ old.caller → new.made ≡ old.made + 1
     → new.last ≡ length trace → new.seen ≡ trace ++ (record { caller = old.caller; number = new.made; now = now; op = op; reply = reply }) ∷ [] → IsPrefix old.seen trace → lines_of new.caller new.seen ≡ new.made
     → IsHistoryFrom start new.seen state → IsEntered start old now op new reply
 entered start state old new now op reply trace word pool caller made last seen begins lines legal =

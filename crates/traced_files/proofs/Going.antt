@@ -46,7 +46,7 @@ use Rattle.vfs_ops.specs.Replies.{holds_bytes, is_refusal}
 use Rattle.vfs_ops.specs.Writing.{BuffersReply}
 use Rattle.vfs_ops.specs.Steps.{IsAnswered, IsDone, IsLast, IsReady, IsRefusal, IsRefusedFor, IsTurnedDown, allowed_on, asked, no_space_in}
 use Rattle.traced_files.specs.Laws.{AreLaws}
-use Rattle.traced_files.specs.History.{IsAsked, IsWithinWeight, files_after}
+use Rattle.traced_files.specs.History.{IsRoomAsked, IsWithinWeight, files_after_line}
 use Rattle.traced_files.proofs.Answering.{IsChanging, IsCounted, IsDoneAlike, IsDowned, IsOverfull, alike_done, alike_refused, allowed_done, allowed_refused, asked_by, asked_none, counts_none, counts_one, downed, open_of, sides_told, tells_count, tells_room}
 use Rattle.traced_files.proofs.Lines.{IsLine}
 use Rattle.traced_files.proofs.Replaying.{done_after, refused_after}
@@ -87,11 +87,11 @@ pub record IsMadeCall (opening : Opening) (s : Stepped) : Type 0 where
 pub record WasEntered (opening : Opening) (place : Place) (s : Stepped) : Type 0 where
   pub after : Files
   pub one : IsLine opening s.old.backing.mode place s.line after ⊎ IsLine opening s.new.backing.mode place s.line after
-  pub replayed : after ≡ files_after place.files s.line
+  pub replayed : after ≡ files_after_line place.files s.line
   pub same : IsAlike after (present_in s.new)
   pub sound : IsSound after
   pub refused : s.new.refused ≡ s.old.refused ++ sides_in s.line
-  pub asked : IsAsked s.line
+  pub asked : IsRoomAsked s.line
   pub counts : IsCounted s.old.backing.faults s.new.backing.faults (count_in s.line)
 
 -- how many inodes have no name
@@ -159,7 +159,7 @@ entered_done opening place s laws h r closed done kept =
 -- why a line is refused, and what it counts
 pub record IsTold (opening : Opening) (place : Place) (s : Stepped) : Type 0 where
   pub one : IsLine opening s.old.backing.mode place s.line place.files ⊎ IsLine opening s.new.backing.mode place s.line place.files
-  pub asked : IsAsked s.line
+  pub asked : IsRoomAsked s.line
   pub counts : IsCounted s.old.backing.faults s.new.backing.faults (count_in s.line)
 
 told_as : (opening : Opening) (place : Place) (s : Stepped) (mode : Mode) (refusal : Refusal) → s.line.number ≡ next_number place.before s.line.caller → s.line.reply ≡ Refused refusal → IsLegalRefusal opening place mode s.line refusal → IsLine opening mode place s.line place.files

@@ -30,7 +30,7 @@ use Rattle.vfs_ops.specs.Operations.{nodes_asked}
 use Rattle.vfs_ops.specs.FilesState.{FilesState, present_in}
 use Rattle.vfs_ops.specs.Replies.{holds_bytes}
 use Rattle.traced_files.specs.Laws.{AreLaws}
-use Rattle.traced_files.specs.History.{IsAsked, IsHistory, IsWithinWeight, Rise, files_after, is_flushed}
+use Rattle.traced_files.specs.History.{IsRoomAsked, IsHistory, IsWithinWeight, Rise, files_after_line, is_flushed}
 use Rattle.traced_files.specs.Replies.{IsToldAs}
 use Rattle.traced_files.proofs.Answering.{IsCounted}
 use Rattle.traced_files.proofs.Counts.{mode_after, mode_turns, rise_later, rise_on}
@@ -115,12 +115,12 @@ call_goes_with opening noted lines s reply laws h history entry says whole =
     record {
       last = behind last line entry.after;
       leads = leads_on opening s.old.backing.mode s.new.backing.mode lines last line entry.after (mode_turns opening s.old.backing s.new.backing history.mode goes.mode) history.leads entry.one;
-      replayed = entry.replayed ∙ ap (λ (files : Files). files_after files line) history.replayed ∙ sym (behind_on opening.files lines line);
+      replayed = entry.replayed ∙ ap (λ (files : Files). files_after_line files line) history.replayed ∙ sym (behind_on opening.files lines line);
       same = entry.same;
       sound = entry.sound;
       mode = mode_after opening s.old.backing s.new.backing history.mode goes.mode was faults;
       refused = entry.refused ∙ ap (λ (x : List NoSpace). x ++ sides_in line) history.refused ∙ append_assoc noted (flat_map sides_in lines) (sides_in line) ∙ ap (λ (x : List NoSpace). noted ++ x) (sym (told_on sides_in lines line));
-      asked = All-push IsAsked lines line history.asked entry.asked;
+      asked = All-push IsRoomAsked lines line history.asked entry.asked;
       counts = counted entry.counts;
       faults = omega (arith, was, faults);
       geometry = goes.geometry ∙ history.geometry;

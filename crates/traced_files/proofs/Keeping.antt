@@ -28,7 +28,7 @@ use Rattle.traced_files.specs.History.{IsHistory, IsSureSince}
 use Rattle.traced_files.specs.Laws.{AreLaws}
 use Rattle.traced_files.specs.Replies.{IsToldAs}
 use Rattle.traced_files.specs.Seen.{HasLeftSeen}
-use Rattle.traced_files.specs.Start.{IsHistoryFrom, Start, opened_at}
+use Rattle.traced_files.specs.Start.{IsHistoryFrom, Start, opening_at}
 use Rattle.traced_files.specs.Traced.{IsTraced}
 use Rattle.traced_files.proofs.Going.{IsMadeCall, Stepped}
 use Rattle.traced_files.proofs.Histories.{background_goes_on, call_goes_on}
@@ -48,14 +48,14 @@ pub record AreStates (old new : FilesState) : Type 0 where
 main_same : (old new : FilesState) → AreStates old new → new.backing.geometry ≡ old.backing.geometry → new.backing.space.main ≡ old.backing.space.main
 main_same old new states same = states.main ∙ ap (λ (geo : RawGeometry). main_lebs geo) same ∙ sym states.first
 
-pub sure_on : (start : Start) (old new : BackingState) (before after : Outlook) → IsSureSince (opened_at start) old.faults before → SureGoes before after old new → IsSureSince (opened_at start) new.faults after
+pub sure_on : (start : Start) (old new : BackingState) (before after : Outlook) → IsSureSince (opening_at start) old.faults before → SureGoes before after old new → IsSureSince (opening_at start) new.faults after
 sure_on start old new before after since goes sure = by (since sure)
   where
-    same : after.spent ⊎ (after.sure × (new.faults ≡ old.faults)) → old.faults ≡ (opened_at start).faults → after.spent ⊎ (after.sure × (new.faults ≡ (opened_at start).faults))
+    same : after.spent ⊎ (after.sure × (new.faults ≡ old.faults)) → old.faults ≡ (opening_at start).faults → after.spent ⊎ (after.sure × (new.faults ≡ (opening_at start).faults))
     same (inl spent) is = inl spent
     same (inr still) is = inr (still.0, still.1 ∙ is)
 
-    by : before.spent ⊎ (before.sure × (old.faults ≡ (opened_at start).faults)) → after.spent ⊎ (after.sure × (new.faults ≡ (opened_at start).faults))
+    by : before.spent ⊎ (before.sure × (old.faults ≡ (opening_at start).faults)) → after.spent ⊎ (after.sure × (new.faults ≡ (opening_at start).faults))
     by (inl spent) = inl (goes.spent spent)
     by (inr still) = same (goes.sure still.0) still.1
 
@@ -112,7 +112,7 @@ traced_on word start held first last line told before after recorder new trace l
     let paid = w.covered in
     let main : w.between.backing.space.main ≡ first.backing.space.main = ap (λ (x : FilesState). x.backing.space.main) w.only in
     let geo : w.between.backing.geometry ≡ first.backing.geometry = ap (λ (x : FilesState). x.backing.geometry) w.only in
-    let call : IsMadeCall (opened_at start) s = record {
+    let call : IsMadeCall (opening_at start) s = record {
       step = w.step;
       moment = made.moment;
       call = made.call;
@@ -123,15 +123,15 @@ traced_on word start held first last line told before after recorder new trace l
       paid = w.most;
       few = w.drained;
     } in
-    let history = history_credits (opened_at start) start.files.refused trace first w.between w.only h.history in
-    let now = call_goes_on (opened_at start) start.files.refused trace s told laws call history made.number made.says in
+    let history = history_credits (opening_at start) start.files.refused trace first w.between w.only h.history in
+    let now = call_goes_on (opening_at start) start.files.refused trace s told laws call history made.number made.says in
     let journal : IsJournalTold w.between = subst (λ (x : FilesState). IsJournalTold x) (sym w.only) made.states.journal in
     record {
       of_word = made.of_word;
       seen = made.seen;
       history = now;
       sure = sure_on start first.backing last.backing before after h.sure sure;
-      left = λ writes. call_leaves (opened_at start) start.files.refused start.files.backing.journal trace s told laws call journal made.states.journal_after made.says writes history now (left_credits start trace first w.between w.only h.left writes);
+      left = λ writes. call_leaves (opening_at start) start.files.refused start.files.backing.journal trace s told laws call journal made.states.journal_after made.says writes history now (left_credits start trace first w.between w.only h.left writes);
     }
 
 -- an event of the background goes on with the lines
@@ -140,9 +140,9 @@ pub traced_beside : (word : TableId) (start : Start) (old new : FilesState) (eve
 traced_beside word start old new event outcome before after recorder trace laws h step sure states = record {
   of_word = h.of_word;
   seen = h.seen;
-  history = background_goes_on (opened_at start) start.files.refused trace old new event outcome step (main_same old new states step.goes.geometry) h.history;
+  history = background_goes_on (opening_at start) start.files.refused trace old new event outcome step (main_same old new states step.goes.geometry) h.history;
   sure = sure_on start old.backing new.backing before after h.sure sure;
-  left = λ writes. background_leaves (opened_at start) start.files.refused start.files.backing.journal trace old new event outcome laws step states.journal states.ready.sound h.history (h.left writes);
+  left = λ writes. background_leaves (opening_at start) start.files.refused start.files.backing.journal trace old new event outcome laws step states.journal states.ready.sound h.history (h.left writes);
 }
 
 between : (old new : FilesState) (event : Event) (outcome : Outcome) → is_work_between event ≡ true → IsStep old new event outcome → IsBackgroundStep old new event outcome

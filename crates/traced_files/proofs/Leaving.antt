@@ -42,7 +42,7 @@ use Rattle.vfs_ops.specs.Replies.{IsAlikeOutcome, holds_bytes, is_refusal}
 use Rattle.vfs_ops.specs.Steps.{IsAnswered, IsDone, IsReady, allowed_on}
 use Rattle.vfs_ops.proofs.Cutting.{has_among}
 use Rattle.vfs_ops.proofs.Serving.{alike_self}
-use Rattle.traced_files.specs.History.{IsHistory, IsModeAfter, files_after, files_behind}
+use Rattle.traced_files.specs.History.{IsHistory, IsModeAfter, files_after_line, files_behind}
 use Rattle.traced_files.specs.Laws.{AreLaws}
 use Rattle.traced_files.specs.Replies.{IsToldAs}
 use Rattle.traced_files.specs.Seen.{IsFaulted, LeavesSeen, ValuesBefore, WasSeen, is_flush_done, is_unflushed}
@@ -154,7 +154,7 @@ seen_before opening lines line files are still place value is = record {
 -- by the last line, which is done
 seen_done : (opening : Files) (lines : List TraceLine) (line : TraceLine) (files : Files) → files ≡ files_behind opening lines → is_refusal line.reply ≡ false → AreAmong (ValuesOf (made_of files line).tree) (WasSeen opening (lines ++ line ∷ []))
 seen_done opening lines line files are plain =
-    seen_last opening (lines ++ line ∷ []) (made_of files line) (sym (done_after files line plain) ∙ ap (λ (f : Files). files_after f line) are ∙ sym (behind_on opening lines line))
+    seen_last opening (lines ++ line ∷ []) (made_of files line) (sym (done_after files line plain) ∙ ap (λ (f : Files). files_after_line f line) are ∙ sym (behind_on opening lines line))
 
 -- by the last line, in which the volume failed
 seen_failed : (opening : Files) (lines : List TraceLine) (line : TraceLine) (files : Files) → files ≡ files_behind opening lines → is_unflushed (line ∷ []) ≡ true → IsFaulted line.reply → AreAmong (ValuesOf (made_of files line).tree) (WasSeen opening (lines ++ line ∷ []))

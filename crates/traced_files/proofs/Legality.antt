@@ -15,7 +15,7 @@ use Rattle.fs_model.specs.Same.{IsSame}
 use Rattle.fs_laws.specs.Sound.{IsSound}
 use Rattle.buffered_files.specs.Alike.{IsAlike}
 use Rattle.vfs_ops.specs.FilesState.{FilesState, present_in}
-use Rattle.traced_files.specs.History.{IsAsked, IsHistory, IsModeAfter, IsSureSince, first_place, opening_of, present_of}
+use Rattle.traced_files.specs.History.{IsRoomAsked, IsHistory, IsModeAfter, IsSureSince, first_place, opening_of, present_of}
 use Rattle.traced_files.proofs.Counts.{rise_ascends, rise_bounds}
 
 drop_all : {A : Type 0} (xs ys : List A) → drop (length xs) (xs ++ ys) ≡ ys
@@ -63,7 +63,7 @@ history_opens state outlook callers sound = record {
   sound = sound;
   mode = inl refl;
   refused = sym (append-nil state.refused);
-  asked = All-nil IsAsked;
+  asked = All-nil IsRoomAsked;
   counts = omega arith;
   faults = omega arith;
   geometry = refl;

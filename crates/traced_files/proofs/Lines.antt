@@ -5,7 +5,7 @@ use Rattle.fs_model.specs.declared.backing_answers.Mode.{Mode}
 use Rattle.fs_model.specs.declared.trace.TraceLine.{TraceLine}
 use Rattle.fs_model.specs.Files.{Files}
 use Rattle.fs_model.specs.Legal.{AreLines, IsPlain, IsRefused, Opening, Place, behind, next_number}
-use Rattle.traced_files.specs.History.{Leads, first_place}
+use Rattle.traced_files.specs.History.{LinesLead, first_place}
 
 -- a line at this place, answered in this mode
 pub record IsLine (opening : Opening) (mode : Mode) (place : Place) (line : TraceLine) (after : Files) : Type 0 where
@@ -30,12 +30,12 @@ lines_then opening mode a (x ∷ xs) b ys c lines more =
     (lines.0, lines.1, lines.2, lines_then opening mode (behind a x lines.1) xs b ys c lines.3 more)
 
 -- all lines stand before the last place
-pub before_last : (opening : Opening) (mode : Mode) (lines : List TraceLine) (last : Place) → Leads opening mode lines last → last.before ≡ lines
+pub before_last : (opening : Opening) (mode : Mode) (lines : List TraceLine) (last : Place) → LinesLead opening mode lines last → last.before ≡ lines
 before_last opening mode lines last h =
     before_is opening mode h.middle h.rest last h.closed ∙ ap (λ (xs : List TraceLine). xs ++ h.rest) (before_is opening opening.mode (first_place opening) h.first h.middle h.opened) ∙ sym h.all
 
 -- a line more in the same mode
-pub leads_same : (opening : Opening) (mode : Mode) (lines : List TraceLine) (last : Place) (line : TraceLine) (after : Files) → Leads opening mode lines last → IsLine opening mode last line after → Leads opening mode (lines ++ line ∷ []) (behind last line after)
+pub leads_same : (opening : Opening) (mode : Mode) (lines : List TraceLine) (last : Place) (line : TraceLine) (after : Files) → LinesLead opening mode lines last → IsLine opening mode last line after → LinesLead opening mode (lines ++ line ∷ []) (behind last line after)
 leads_same opening mode lines last line after h one = record {
   first = h.first;
   rest = h.rest ++ line ∷ [];
@@ -46,7 +46,7 @@ leads_same opening mode lines last line after h one = record {
 }
 
 -- where the mode was that of the opening until now, all lines were answered in that one
-pub leads_lost : (opening : Opening) (mode new : Mode) (lines : List TraceLine) (last : Place) → mode ≡ opening.mode → Leads opening mode lines last → Leads opening new lines last
+pub leads_lost : (opening : Opening) (mode new : Mode) (lines : List TraceLine) (last : Place) → mode ≡ opening.mode → LinesLead opening mode lines last → LinesLead opening new lines last
 leads_lost opening mode new lines last is h = record {
   first = lines;
   rest = [];
@@ -63,12 +63,12 @@ leads_lost opening mode new lines last is h = record {
 abbrev pub ModeTurns : Opening → Mode → Mode → Type 0
 ModeTurns opening old new = (new ≡ old) ⊎ (old ≡ opening.mode)
 
-pub leads_stay : (opening : Opening) (old new : Mode) (lines : List TraceLine) (last : Place) → ModeTurns opening old new → Leads opening old lines last → Leads opening new lines last
-leads_stay opening old new lines last (inl same) h = let P : Mode → Type 0 = λ m. Leads opening m lines last in subst P (sym same) h
+pub leads_stay : (opening : Opening) (old new : Mode) (lines : List TraceLine) (last : Place) → ModeTurns opening old new → LinesLead opening old lines last → LinesLead opening new lines last
+leads_stay opening old new lines last (inl same) h = let P : Mode → Type 0 = λ m. LinesLead opening m lines last in subst P (sym same) h
 leads_stay opening old new lines last (inr first) h = leads_lost opening old new lines last first h
 
-pub leads_on : (opening : Opening) (old new : Mode) (lines : List TraceLine) (last : Place) (line : TraceLine) (after : Files) → ModeTurns opening old new → Leads opening old lines last → IsLine opening old last line after ⊎ IsLine opening new last line after
-    → Leads opening new (lines ++ line ∷ []) (behind last line after)
+pub leads_on : (opening : Opening) (old new : Mode) (lines : List TraceLine) (last : Place) (line : TraceLine) (after : Files) → ModeTurns opening old new → LinesLead opening old lines last → IsLine opening old last line after ⊎ IsLine opening new last line after
+    → LinesLead opening new (lines ++ line ∷ []) (behind last line after)
 leads_on opening old new lines last line after turns h (inl before) =
     leads_stay opening old new (lines ++ line ∷ []) (behind last line after) turns (leads_same opening old lines last line after h before)
 leads_on opening old new lines last line after turns h (inr later) =

@@ -22,15 +22,15 @@ use Rattle.vfs_ops.specs.Kinds.{added_by, is_late}
 use Rattle.vfs_ops.specs.Operations.{has_group, nodes_asked}
 use Rattle.vfs_ops.specs.Replies.{is_refusal}
 use Rattle.vfs_ops.specs.Steps.{is_write}
-use Rattle.traced_files.specs.History.{grown_by, grown_weight}
+use Rattle.traced_files.specs.History.{index_growth_by, grown_weight}
 use Rattle.traced_files.specs.Laws.{AreLaws}
 use Rattle.traced_files.proofs.Going.{IsMadeCall, Stepped, WasEntered}
 use Rattle.traced_files.proofs.Lines.{IsLine}
 
 -- one line more weighs what it adds
-pub grown_on : (opening : Opening) (lines : List TraceLine) (line : TraceLine) → grown_weight opening (lines ++ line ∷ []) ≡ grown_weight opening lines + grown_by line.op
+pub grown_on : (opening : Opening) (lines : List TraceLine) (line : TraceLine) → grown_weight opening (lines ++ line ∷ []) ≡ grown_weight opening lines + index_growth_by line.op
 grown_on opening lines line =
-    let f : TraceLine → ℕ = λ l. grown_by l.op in
+    let f : TraceLine → ℕ = λ l. index_growth_by l.op in
     let a = sum_by-append f lines (line ∷ []) in
     let b = sum_by-cons f line [] in
     omega (arith, a, b)
@@ -84,13 +84,13 @@ unfailed opening place s laws sound entry was is = by entry.one
     by (inr one) = line_failed opening s.new.backing.mode place s.line entry.after laws sound one.answer is
 
 -- a call makes the index no heavier than its operation may
-pub call_grows : (opening : Opening) (s : Stepped) → AreLaws → IsMadeCall opening s → IsUnfailed s.line.reply → full_weight s.new.backing s.new.kept ≤ full_weight s.old.backing s.old.kept + grown_by s.line.op
+pub call_grows : (opening : Opening) (s : Stepped) → AreLaws → IsMadeCall opening s → IsUnfailed s.line.reply → full_weight s.new.backing s.new.kept ≤ full_weight s.old.backing s.old.kept + index_growth_by s.line.op
 call_grows opening s laws h whole = by (is_write s.line.op || has_group s.line.op) refl
   where
-    by : (b : Bool) → (is_write s.line.op || has_group s.line.op) ≡ b → full_weight s.new.backing s.new.kept ≤ full_weight s.old.backing s.old.kept + grown_by s.line.op
+    by : (b : Bool) → (is_write s.line.op || has_group s.line.op) ≡ b → full_weight s.new.backing s.new.kept ≤ full_weight s.old.backing s.old.kept + index_growth_by s.line.op
     by true e =
         let few = laws.few s.old s.new s.line.caller s.line.now s.grant s.line.op _ h.ready.sound h.step in
-        let is : grown_by s.line.op ≡ 5 + 2 * pages_in s.line.op = ap (λ (b : Bool). if b then 5 + 2 * pages_in s.line.op else 0) e in
+        let is : index_growth_by s.line.op ≡ 5 + 2 * pages_in s.line.op = ap (λ (b : Bool). if b then 5 + 2 * pages_in s.line.op else 0) e in
         omega (arith, few, is)
     by false e =
         let none = none_asked (present_in s.old) s.line.caller s.line.now s.line.op e in

@@ -68,7 +68,7 @@ abbrev pub first_place : Opening → Place
 first_place opening = record { before = []; files = opening.files; orphans = 0 }
 
 -- The lines lead from the opening to a place: some in the mode of the opening, the rest in this one.
-pub record Leads (opening : Opening) (mode : Mode) (lines : List TraceLine) (last : Place) : Type 0 where
+pub record LinesLead (opening : Opening) (mode : Mode) (lines : List TraceLine) (last : Place) : Type 0 where
   pub first : List TraceLine
   pub rest : List TraceLine
   pub all : lines ≡ first ++ rest
@@ -77,8 +77,8 @@ pub record Leads (opening : Opening) (mode : Mode) (lines : List TraceLine) (las
   pub closed : AreLines opening mode middle rest last
 
 -- the files behind a line: those that its operation makes of them, or the same, if it is refused
-abbrev pub files_after : Files → TraceLine → Files
-files_after files line = by line.reply
+abbrev pub files_after_line : Files → TraceLine → Files
+files_after_line files line = by line.reply
   where
     by : Reply → Files
     by (Refused refusal) = files
@@ -86,19 +86,19 @@ files_after files line = by line.reply
 
 -- the files behind these lines
 abbrev pub files_behind : Files → List TraceLine → Files
-files_behind files lines = fold files_after files lines
+files_behind files lines = fold files_after_line files lines
 
 -- Want of room refuses nothing but a write, or an operation with a group of changes.
-abbrev pub IsAsked : TraceLine → Type 0
-IsAsked line = (sides : NoSpace) → line.reply ≡ Refused (Enospc sides) → (is_write line.op ≡ true) ⊎ (has_group line.op ≡ true)
+abbrev pub IsRoomAsked : TraceLine → Type 0
+IsRoomAsked line = (sides : NoSpace) → line.reply ≡ Refused (Enospc sides) → (is_write line.op ≡ true) ⊎ (has_group line.op ≡ true)
 
 -- how much heavier the index gets by an operation at most: by five nodes and two for each page that it touches, if it writes or has a group, and else by none
-abbrev pub grown_by : Op → ℕ
-grown_by op = if is_write op || has_group op then 5 + 2 * pages_in op else 0
+abbrev pub index_growth_by : Op → ℕ
+index_growth_by op = if is_write op || has_group op then 5 + 2 * pages_in op else 0
 
 -- what the index weighs at most behind these lines, dirty pages included
 abbrev pub grown_weight : Opening → List TraceLine → ℕ
-grown_weight opening lines = opening.space.weight + 2 * opening.dirty + sum_by (λ line. grown_by line.op) lines
+grown_weight opening lines = opening.space.weight + 2 * opening.dirty + sum_by (λ line. index_growth_by line.op) lines
 
 -- whether all is written back behind a line: it is a flush that was done, or a question where all was written back before it
 abbrev pub flushed_by : Bool → Op → Reply → Bool
@@ -123,14 +123,14 @@ pub record IsWithinWeight (opening : Opening) (lines : List TraceLine) (state : 
 pub record IsHistory (opening : Opening) (noted : List NoSpace) (lines : List TraceLine) (now : FilesState) : Type 0 where
   -- Replayed one after another, the lines lead to a place whose files callers can't tell from the present ones.
   pub last : Place
-  pub leads : Leads opening now.backing.mode lines last
+  pub leads : LinesLead opening now.backing.mode lines last
   pub replayed : last.files ≡ files_behind opening.files lines
   pub same : IsAlike last.files (present_in now)
   pub sound : IsSound last.files
   -- The mode changes once at most; the sides of refusals are those that are noted since, and the counts of faults rise.
   pub mode : IsModeAfter opening now.backing.mode now.backing.faults
   pub refused : now.refused ≡ noted ++ flat_map sides_in lines
-  pub asked : All IsAsked lines
+  pub asked : All IsRoomAsked lines
   pub counts : Rise opening.faults (flat_map count_in lines) now.backing.faults
   pub faults : opening.faults ≤ now.backing.faults
   -- The layout stays, the next list of orphans has as much room as the lines left of it, and the index weighs no more than they may add.

@@ -19,12 +19,12 @@ pub record Start : Type 1 where
   pub callers : ℕ
 
 -- the opening of a history
-abbrev pub opened_at : Start → Opening
-opened_at start = opening_of start.files start.outlook start.callers
+abbrev pub opening_at : Start → Opening
+opening_at start = opening_of start.files start.outlook start.callers
 
 -- these lines, and work between them, lead from there to this state
 abbrev pub IsHistoryFrom : Start → List TraceLine → FilesState → Type 0
-IsHistoryFrom start lines now = IsHistory (opened_at start) start.files.refused lines now
+IsHistoryFrom start lines now = IsHistory (opening_at start) start.files.refused lines now
 
 -- a backing of which nothing is said
 abbrev pub no_backing : BackingState

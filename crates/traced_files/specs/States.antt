@@ -5,7 +5,7 @@ use Rattle.fs_model.specs.declared.trace.TraceLine.{TraceLine}
 use Rattle.vfs_ops.specs.FilesState.{FilesState}
 
 -- a pass: its trace's word, its pool, whose it is, how many calls it has made, the place of the last, and the trace as it was seen then
-pub record PassState : Type 0 where
+pub record TracedPassState : Type 0 where
   pub word : TableId
   pub pool : TableId
   pub caller : ℕ
@@ -14,11 +14,11 @@ pub record PassState : Type 0 where
   pub seen : List TraceLine
 
 -- the pass of a caller who has made no call
-abbrev pub fresh_pass : TableId → TableId → ℕ → PassState
+abbrev pub fresh_pass : TableId → TableId → ℕ → TracedPassState
 fresh_pass word pool caller = record { word = word; pool = pool; caller = caller; made = 0; last = 0; seen = [] }
 
 -- those of the callers from 1 on, in order
-abbrev pub fresh_passes : TableId → TableId → ℕ → List PassState
+abbrev pub fresh_passes : TableId → TableId → ℕ → List TracedPassState
 fresh_passes word pool zero = []
 fresh_passes word pool (suc n) = fresh_passes word pool n ++ fresh_pass word pool (suc n) ∷ []
 

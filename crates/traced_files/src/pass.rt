@@ -18,15 +18,15 @@ pub struct Pass {
 }
 
 impl Model for Pass {
-    ghost use Rattle.traced_files.specs.States.{PassState};
+    ghost use Rattle.traced_files.specs.States.{TracedPassState};
 
-    ghost Value = { PassState };
+    ghost Value = { TracedPassState };
 
-    ghost use Rattle.traced_files.specs.Passes.{pass_state, IsPass};
+    ghost use Rattle.traced_files.specs.Passes.{traced_pass_state, IsPassInside};
 
-    ghost view = { pass_state };
+    ghost view = { traced_pass_state };
 
-    ghost invariant = { IsPass };
+    ghost invariant = { IsPassInside };
 }
 
 impl Pass {

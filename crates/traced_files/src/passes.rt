@@ -1,7 +1,7 @@
 // The passes of all callers.
 
 ghost use Rattle.std.specs.Prelude.{◌≡◌, ◌≤◌, ◌+◌, [], All, IfOk, vec_capacity};
-ghost use Rattle.traced_files.specs.Calls.{StandsIn};
+ghost use Rattle.traced_files.specs.Calls.{StandsInTrace};
 ghost use Rattle.traced_files.specs.Start.{IsNewLedger};
 ghost use Rattle.traced_files.specs.States.{fresh_pass, fresh_passes};
 
@@ -91,7 +91,7 @@ fn make_passes(
 fn meet_one(word: &TraceWord, recorder: &mut Recorder, pass: Pass)
     requires { (recorder.old.word ≡ word.now) × (pass.word ≡ word.now) }
     ensures recorder { (recorder.new.word ≡ word.now) × (recorder.new.known.seen ≡ recorder.old.known.seen) }
-    ensures pass { StandsIn recorder.old.known.seen pass }
+    ensures pass { StandsInTrace recorder.old.known.seen pass }
 {
     let mut pass = pass;
     word.meet(recorder, &mut pass.ticket);
@@ -102,7 +102,7 @@ pub fn meet_all(word: &TraceWord, recorder: &mut Recorder, passes: Vec<Pass>)
     requires word { recorder.old.word ≡ word.now }
     requires passes { All (λ p. p.word ≡ word.now) passes.items }
     ensures recorder { (recorder.new.word ≡ word.now) × (recorder.new.known.seen ≡ recorder.old.known.seen) }
-    ensures passes { All (λ p. StandsIn recorder.old.known.seen p) passes.items }
+    ensures passes { All (λ p. StandsInTrace recorder.old.known.seen p) passes.items }
 {
     for pass in passes {
         meet_one(word, recorder, pass);

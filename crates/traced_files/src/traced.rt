@@ -5,9 +5,9 @@ ghost use Rattle.credited_files.specs.Calls.{is_work_between};
 ghost use Rattle.credited_files.specs.States.{HasOtherCredits};
 ghost use Rattle.fs_laws.specs.Sound.{IsCall};
 ghost use Rattle.fs_model.specs.Legal.{pages_in};
-ghost use Rattle.traced_files.specs.Calls.{AreLegal, IsClosedHistory, IsEntered, IsUndone, WasStepped};
+ghost use Rattle.traced_files.specs.Calls.{AreLinesLegal, IsClosedHistory, IsEntered, IsUndone, WasStepped};
 ghost use Rattle.traced_files.specs.Start.{IsNewLedger};
-ghost use Rattle.traced_files.specs.States.{PassState, TracedState};
+ghost use Rattle.traced_files.specs.States.{TracedPassState, TracedState};
 ghost use Rattle.vfs_ops.specs.declared.event.Event.TheVariants.{Drain, Pick, Put, Refill};
 ghost use Rattle.vfs_ops.specs.Background.{is_work};
 ghost use Rattle.vfs_ops.specs.Fs.{files_state};
@@ -203,7 +203,7 @@ impl<B: Backing, J: Site> TracedFs<B, J> {
         ensures trace { result.trace.items ≡ self.trace }
         ensures recorder { (result.recorder.word ≡ J.word) × (result.recorder.known.seen ≡ self.trace) }
         ensures history { IsClosedHistory J.start self.trace (files_state result.fs) (B.outlook result.fs.backing) }
-        ensures legal { AreLegal J.start self.trace (files_state result.fs) (B.outlook result.fs.backing) }
+        ensures legal { AreLinesLegal J.start self.trace (files_state result.fs) (B.outlook result.fs.backing) }
         ensures credits { (files_state result.fs).backing.space.credits ≡ length (files_state result.fs).kept.pages.dirty }
     {
         alike_files_are_the_same();

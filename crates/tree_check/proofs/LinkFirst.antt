@@ -10,7 +10,7 @@ use Rattle.fs_model.specs.Files.{Tree}
 use Rattle.fs_model.specs.Path.{is_dir}
 use Rattle.fs_model.specs.Proper.{names_of}
 use Rattle.leaf_map.specs.Kept.{Kept, shown_by}
-use Rattle.leaf_map.specs.Shown.{inodes_of, tree_of, with_inode}
+use Rattle.leaf_map.specs.Shown.{inodes_of, tree_of, with_shown_inode}
 use Rattle.sound_image.specs.Breaches.{IsWrongLinkOf}
 use Rattle.sound_image.specs.Tree.{HasLinks, has_its_links}
 use Rattle.sound_image.specs.Wrong.{IsOneOf, Wrong, differs}
@@ -116,7 +116,7 @@ all_right : (tree : Tree) (all part : List Kept) → ((x : Kept) → IsOneOf x p
 all_right tree all [] within none = refl
 all_right tree all (x ∷ part) within none = by (all_right tree all part (λ y one. within y (one_more y x part one)) none) (shown_by x) refl
   where
-    by : list_all (has_its_links tree) (inodes_of part) ≡ true → (c : Option Change) → shown_by x ≡ c → list_all (has_its_links tree) (with_inode c (inodes_of part)) ≡ true
+    by : list_all (has_its_links tree) (inodes_of part) ≡ true → (c : Option Change) → shown_by x ≡ c → list_all (has_its_links tree) (with_shown_inode c (inodes_of part)) ≡ true
     by more (Some (SetInode ino inode)) e = elim (cases_Bool (has_its_links tree (ino, inode))) [
       | inl right ↦ and_from (has_its_links tree (ino, inode)) (list_all (has_its_links tree) (inodes_of part)) right more
       | inr wrong ↦ absurd (none (at_link tree x ino inode) (record { x = x; one = within x ([], part, refl); ino = ino; inode = inode; shows = e; other = wrong; is = refl }))

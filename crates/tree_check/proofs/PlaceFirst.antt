@@ -17,7 +17,7 @@ use Rattle.leaf_map.specs.After.{goes}
 use Rattle.leaf_map.specs.Kept.{Kept, shown_by}
 use Rattle.leaf_map.specs.LeafMap.{shows_same}
 use Rattle.leaf_map.specs.Shown.{tree_of}
-use Rattle.sound_image.specs.Breaches.{IsOutOfPlace, is_misfit, number_of}
+use Rattle.sound_image.specs.Breaches.{IsOutOfPlace, is_misfit, inode_number_of}
 use Rattle.sound_image.specs.Wrong.{IsOneOf, Wrong, differs}
 use Rattle.image_check.specs.WrongValues.{IsFirstOf, wrong_at}
 use Rattle.image_check.specs.FirstLaws.{first_alone, first_same}
@@ -108,7 +108,7 @@ number_by : ℕ → Option Change → ℕ
 number_by number (Some (SetEntry e)) = e.ino
 number_by number other = number
 
-number_is : (x : Kept) (c : Option Change) → shown_by x ≡ c → number_of x ≡ number_by (key_words x.leaf.key).0 c
+number_is : (x : Kept) (c : Option Change) → shown_by x ≡ c → inode_number_of x ≡ number_by (key_words x.leaf.key).0 c
 unfolding number_by
 number_is x c e = rw (sym e) refl
 
@@ -127,12 +127,12 @@ number_told number = told_all (λ c s. number_by number c ≡ number_shown numbe
 
 -- what is wrong at a leaf
 abbrev at_leaf : Kept → Wrong
-at_leaf x = record { lnum = x.leaf.lnum; offs = x.leaf.offs; misfit = differs (number_of x) 0 }
+at_leaf x = record { lnum = x.leaf.lnum; offs = x.leaf.offs; misfit = differs (inode_number_of x) 0 }
 
 place_told : (x : Kept) (leaf : ShownLeaf) → IsShownBy x leaf → wrong_at (misplaced_at leaf) ≡ at_leaf x
 place_told x leaf h =
     let n = number_is x (shown_by x) refl ∙ number_told (key_words x.leaf.key).0 (shown_by x) leaf.shown h.shown in
-    let m : number_shown leaf.number leaf.shown ≡ number_of x = ap (λ k. number_shown k leaf.shown) h.number ∙ sym n in
+    let m : number_shown leaf.number leaf.shown ≡ inode_number_of x = ap (λ k. number_shown k leaf.shown) h.number ∙ sym n in
     rw (m, h.lnum, h.offs) refl
 
 -- ---- from what is told to the tree

@@ -17,8 +17,8 @@ use Rattle.fs_model.specs.Files.{Tree}
 use Rattle.fs_model.specs.Proper.{has_kind}
 use Rattle.leaf_map.specs.Kept.{Kept, shown_by}
 use Rattle.leaf_map.specs.LeafMap.{are_apart, shows_same}
-use Rattle.leaf_map.specs.Shown.{inodes_of, tree_of, with_inode}
-use Rattle.sound_image.specs.Breaches.{IsOutOfPlace, is_misfit, number_of}
+use Rattle.leaf_map.specs.Shown.{inodes_of, tree_of, with_shown_inode}
+use Rattle.sound_image.specs.Breaches.{IsOutOfPlace, is_misfit, inode_number_of}
 use Rattle.sound_image.specs.Tree.{is_in_place, is_named_well}
 use Rattle.sound_image.specs.Wrong.{IsOneOf, Wrong, differs}
 use Rattle.image_check.specs.WrongValues.{IsFirstOf}
@@ -30,7 +30,7 @@ abbrev NoneIsWrong : List Kept → Tree → ℕ × ℕ → Type 0
 NoneIsWrong kept tree root = (at : Wrong) → IsOutOfPlaceAt kept tree root at → ⊥
 
 no_leaf : (kept : List Kept) (tree : Tree) (root : ℕ × ℕ) → NoneIsWrong kept tree root → (x : Kept) → IsOneOf x kept → IsOutOfPlace kept tree x → ⊥
-no_leaf kept tree root none x one out = none (record { lnum = x.leaf.lnum; offs = x.leaf.offs; misfit = differs (number_of x) 0 }) (inl (x, one, out, refl))
+no_leaf kept tree root none x one out = none (record { lnum = x.leaf.lnum; offs = x.leaf.offs; misfit = differs (inode_number_of x) 0 }) (inl (x, one, out, refl))
 
 no_misfit : (kept : List Kept) (tree : Tree) (root : ℕ × ℕ) → NoneIsWrong kept tree root → (x : Kept) → IsOneOf x kept → is_misfit tree (shown_by x) ≡ false
 no_misfit kept tree root none x one = elim (cases_Bool (is_misfit tree (shown_by x))) [ inl misfit ↦ absurd (no_leaf kept tree root none x one (inl misfit)) | inr right ↦ right ]
@@ -57,7 +57,7 @@ all_placed kept [] tree root none within = refl
 all_placed kept (x ∷ part) tree root none within =
     by (all_placed kept part tree root none (λ y one. within y (one_more y x part one))) (shown_by x) (no_misfit kept tree root none x (within x ([], part, refl)))
   where
-    by : list_all (is_in_place tree) (inodes_of part) ≡ true → (c : Option Change) → is_misfit tree c ≡ false → list_all (is_in_place tree) (with_inode c (inodes_of part)) ≡ true
+    by : list_all (is_in_place tree) (inodes_of part) ≡ true → (c : Option Change) → is_misfit tree c ≡ false → list_all (is_in_place tree) (with_shown_inode c (inodes_of part)) ≡ true
     by more (Some (SetInode ino inode)) h =
         and_from (is_in_place tree (ino, inode)) (list_all (is_in_place tree) (inodes_of part)) (not-false (is_in_place tree (ino, inode)) (or_parts (not (is_in_place tree (ino, inode))) ((ino == 1) && not (has_kind tree 1 Dir)) h).0) more
     by more None h = more
@@ -84,7 +84,7 @@ root_kind kept [] tree root none within there = absurd (there refl)
 root_kind kept (x ∷ part) tree root none within there =
     by (root_kind kept part tree root none (λ y one. within y (one_more y x part one))) (shown_by x) (no_misfit kept tree root none x (within x ([], part, refl))) there
   where
-    by : ((lookup (is_at (nat_cmp 1)) (inodes_of part) ≡ None → ⊥) → has_kind tree 1 Dir ≡ true) → (c : Option Change) → is_misfit tree c ≡ false → (lookup (is_at (nat_cmp 1)) (with_inode c (inodes_of part)) ≡ None → ⊥) → has_kind tree 1 Dir ≡ true
+    by : ((lookup (is_at (nat_cmp 1)) (inodes_of part) ≡ None → ⊥) → has_kind tree 1 Dir ≡ true) → (c : Option Change) → is_misfit tree c ≡ false → (lookup (is_at (nat_cmp 1)) (with_shown_inode c (inodes_of part)) ≡ None → ⊥) → has_kind tree 1 Dir ≡ true
     by more (Some (SetInode ino inode)) h k = elim (cases_Bool (is_at (nat_cmp 1) ino)) [
       | inl here ↦ with_true (ino == 1) (has_kind tree 1 Dir) (at_one ino (nat_cmp 1 ino) refl here) (or_parts (not (is_in_place tree (ino, inode))) ((ino == 1) && not (has_kind tree 1 Dir)) h).1
       | inr other ↦

@@ -18,7 +18,7 @@ use Rattle.fs_model.specs.declared.inode.Kind.{Kind}
 use Rattle.fs_model.specs.Files.{Entries, Inodes, Tree, inode_at, name_cmp}
 use Rattle.fs_model.specs.Proper.{climbs, has_kind, names_of, same_kind}
 use Rattle.leaf_map.specs.Kept.{Kept, shown_by}
-use Rattle.leaf_map.specs.Shown.{entries_of, inodes_of, tree_of, with_entry, with_inode}
+use Rattle.leaf_map.specs.Shown.{entries_of, inodes_of, tree_of, with_entry, with_shown_inode}
 use Rattle.tree_check.specs.declared.link.Link.{Link}
 use Rattle.tree_check.specs.declared.shown_leaf.Shown.{Shown}
 use Rattle.tree_check.specs.declared.shown_leaf.ShownLeaf.{ShownLeaf}
@@ -33,8 +33,8 @@ use Rattle.tree_check.proofs.TestLaws.{at_swap, told_all}
 abbrev kind_found : Option Inode → Option Kind
 kind_found o = option_map (λ (i : Inode). i.kind) o
 
-kind_of_one : (es : Inodes) (q : ℕ) (c : Option Change) (s : Shown) → shown_told c ≡ Some s → kind_found (lookup (is_at (nat_cmp q)) (with_inode c es)) ≡ with_kind s q (kind_found (lookup (is_at (nat_cmp q)) es))
-kind_of_one es q = told_all (λ c s. kind_found (lookup (is_at (nat_cmp q)) (with_inode c es)) ≡ with_kind s q (kind_found (lookup (is_at (nat_cmp q)) es))) all
+kind_of_one : (es : Inodes) (q : ℕ) (c : Option Change) (s : Shown) → shown_told c ≡ Some s → kind_found (lookup (is_at (nat_cmp q)) (with_shown_inode c es)) ≡ with_kind s q (kind_found (lookup (is_at (nat_cmp q)) es))
+kind_of_one es q = told_all (λ c s. kind_found (lookup (is_at (nat_cmp q)) (with_shown_inode c es)) ≡ with_kind s q (kind_found (lookup (is_at (nat_cmp q)) es))) all
   where
     by : (inode : Inode) (a b : Bool) → a ≡ b → kind_found (cond a (Some inode) (lookup (is_at (nat_cmp q)) es)) ≡ cond b (Some inode.kind) (kind_found (lookup (is_at (nat_cmp q)) es))
     by inode true true h = refl
@@ -42,7 +42,7 @@ kind_of_one es q = told_all (λ c s. kind_found (lookup (is_at (nat_cmp q)) (wit
     by inode false true h = absurd cc
     by inode false false h = refl
 
-    all : (c : Option Change) → IfSome (shown_told c) (λ s. kind_found (lookup (is_at (nat_cmp q)) (with_inode c es)) ≡ with_kind s q (kind_found (lookup (is_at (nat_cmp q)) es)))
+    all : (c : Option Change) → IfSome (shown_told c) (λ s. kind_found (lookup (is_at (nat_cmp q)) (with_shown_inode c es)) ≡ with_kind s q (kind_found (lookup (is_at (nat_cmp q)) es)))
     all (Some (SetInode ino inode)) = by inode (is_at (nat_cmp q) ino) (is_at (nat_cmp ino) q) (at_swap nat_cmp numbers q ino)
     all (Some (DropInode ino)) = tt
     all c = refl
@@ -53,13 +53,13 @@ kinds_told [] (leaf ∷ leaves) h q = absurd h
 kinds_told (x ∷ kept) [] h q = absurd h
 kinds_told (x ∷ kept) (leaf ∷ leaves) h q = kind_of_one (inodes_of kept) q (shown_by x) leaf.shown h.0.shown ∙ ap (with_kind leaf.shown q) (kinds_told kept leaves h.1 q)
 
-count_of_one : (es : Inodes) (c : Option Change) (s : Shown) → shown_told c ≡ Some s → length (with_inode c es) ≡ inode_count s + length es
-count_of_one es = told_all (λ c s. length (with_inode c es) ≡ inode_count s + length es) all
+count_of_one : (es : Inodes) (c : Option Change) (s : Shown) → shown_told c ≡ Some s → length (with_shown_inode c es) ≡ inode_count s + length es
+count_of_one es = told_all (λ c s. length (with_shown_inode c es) ≡ inode_count s + length es) all
   where
     none : length es ≡ 0 + length es
     none = omega arith
 
-    all : (c : Option Change) → IfSome (shown_told c) (λ s. length (with_inode c es) ≡ inode_count s + length es)
+    all : (c : Option Change) → IfSome (shown_told c) (λ s. length (with_shown_inode c es) ≡ inode_count s + length es)
     all (Some (SetInode ino inode)) = omega arith
     all (Some (DropInode ino)) = tt
     all c = none

@@ -7,7 +7,7 @@ use Rattle.fs_model.specs.declared.inode.Kind.{Kind}
 use Rattle.fs_model.specs.declared.inode.Kind.TheVariants.{Dir}
 use Rattle.leaf_map.specs.Kept.{Kept, shown_by}
 use Rattle.leaf_map.specs.LeafMap.{are_apart}
-use Rattle.sound_image.specs.Breaches.{IsAtNode, IsOutOfPlace, number_of}
+use Rattle.sound_image.specs.Breaches.{IsAtNode, IsOutOfPlace, inode_number_of}
 use Rattle.sound_image.specs.Tree.{is_in_place, is_named_well}
 use Rattle.sound_image.specs.Wrong.{IsOneOf, Wrong, differs}
 use Rattle.image_check.specs.declared.wrong_value.WrongValue.{WrongValue}
@@ -21,7 +21,7 @@ use Rattle.tree_check.specs.declared.shown_leaf.ShownLeaf.{ShownLeaf}
 -- is named is wanted; or there is no inode 1, which is wrong at this place.
 abbrev pub IsOutOfPlaceAt : List Kept → Tree → ℕ × ℕ → Wrong → Type 0
 IsOutOfPlaceAt kept tree root at =
-    ((x : Kept) × IsOneOf x kept × IsOutOfPlace kept tree x × IsAtNode x (differs (number_of x) 0) at)
+    ((x : Kept) × IsOneOf x kept × IsOutOfPlace kept tree x × IsAtNode x (differs (inode_number_of x) 0) at)
     ⊎ ((inode_at tree 1 ≡ None) × (at ≡ record { lnum = root.0; offs = root.1; misfit = differs 1 0 }))
 
 -- No leaf shows what one before it shows, inode 1 is a directory, and names and directories are in their places: what the rule on the tree

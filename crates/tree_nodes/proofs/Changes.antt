@@ -27,10 +27,10 @@ use Rattle.fs_model.specs.Path.{is_same_name}
 use Rattle.fs_model.specs.Proper.{IsProper, has_kind, is_entry_node, is_inode_node, is_name, is_sound_entry, are_words, same_kind}
 use Rattle.fs_laws.specs.Maps.{all_at}
 use Rattle.fs_laws.specs.Orders.{numbers}
-use Rattle.group_nodes.specs.NodeLaws.{numbered, plain_mode, node_carries, bits_are, mode_is, bits_say}
+use Rattle.group_nodes.specs.NodeLaws.{inode_numbered, plain_mode, node_carries, bits_are, mode_is, bits_say}
 use Rattle.group_nodes.specs.Nodes.{inode_node, inode_of, kind_of_bits, node_of}
 use Rattle.leaf_map.specs.Kept.{shown}
-use Rattle.image_maker.specs.Leaves.{block_leaf, entry_leaf, leaves_of}
+use Rattle.image_maker.specs.Leaves.{block_leaf, entry_leaf, leaf_nodes_of}
 use Rattle.tree_nodes.specs.Stored.{as_stored}
 
 -- the change that a block's node carries
@@ -55,7 +55,7 @@ entries_are : (es : List Entry) → map node_of (map SetEntry es) ≡ map entry_
 entries_are [] = refl
 entries_are (e ∷ es) = ap (λ z. entry_leaf e ∷ z) (entries_are es)
 
-leaves_are : (tree : Tree) (e : ℕ × Inode) → map node_of (changes_of tree e) ≡ leaves_of tree e
+leaves_are : (tree : Tree) (e : ℕ × Inode) → map node_of (changes_of tree e) ≡ leaf_nodes_of tree e
 leaves_are tree e =
     let blocks = filter (λ (stored : (ℕ × ℕ) × List ℕ). stored.0.0 == e.0) tree.blocks in
     let entries = by_hash (entries_in tree e.0) in
@@ -63,10 +63,10 @@ leaves_are tree e =
     (map-append node_of (map set_block blocks) (map SetEntry entries) ∙ ap (λ z. z ++ map node_of (map SetEntry entries)) (blocks_are blocks) ∙ ap (λ z. map block_leaf blocks ++ z) (entries_are entries))
 
 -- the live nodes are those of these changes
-pub nodes_of_changes : (tree : Tree) (inodes : Inodes) → map node_of (changes_from tree inodes) ≡ flat_map (leaves_of tree) inodes
+pub nodes_of_changes : (tree : Tree) (inodes : Inodes) → map node_of (changes_from tree inodes) ≡ flat_map (leaf_nodes_of tree) inodes
 nodes_of_changes tree [] = refl
 nodes_of_changes tree (e ∷ inodes) =
-    map-append node_of (changes_of tree e) (changes_from tree inodes) ∙ ap (λ z. z ++ map node_of (changes_from tree inodes)) (leaves_are tree e) ∙ ap (λ z. leaves_of tree e ++ z) (nodes_of_changes tree inodes)
+    map-append node_of (changes_of tree e) (changes_from tree inodes) ∙ ap (λ z. z ++ map node_of (changes_from tree inodes)) (leaves_are tree e) ∙ ap (λ z. leaf_nodes_of tree e ++ z) (nodes_of_changes tree inodes)
 
 -- ---- each is shown by its node
 -- the node of a change shows it
@@ -156,7 +156,7 @@ ino_some tree h ino kind is = by (inode_at tree ino) refl is
     lt_some n l = grind (arith, nat_tests)
 
     some : (n : ℕ) → (i : Inode) → is_inode_node (n, i) ≡ true → not (n == 0) ≡ true
-    some n i t = lt_some n (numbered (n, i) t)
+    some n i t = lt_some n (inode_numbered (n, i) t)
 
     by : (o : Option Inode) → inode_at tree ino ≡ o → option_map_or (λ (inode : Inode). same_kind inode.kind kind) o false ≡ true → not (ino == 0) ≡ true
     by None e t = absurd (false≢true t)

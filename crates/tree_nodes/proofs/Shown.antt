@@ -13,7 +13,7 @@ use Rattle.fs_model.specs.Files.{Blocks, Entries, Inodes, Tree, name_cmp}
 use Rattle.group_nodes.specs.Nodes.{node_of}
 use Rattle.leaf_map.specs.Kept.{Placed, kept_at, node_key, shown, shown_by}
 use Rattle.leaf_map.specs.LeafMap.{HasKeyOf, IsKeyed, IsLeafMap, are_apart, shows_same}
-use Rattle.leaf_map.specs.Shown.{blocks_of, entries_of, inodes_of, with_block, with_entry, with_inode}
+use Rattle.leaf_map.specs.Shown.{blocks_shown_by, entries_of, inodes_of, with_shown_block, with_entry, with_shown_inode}
 use Rattle.tree_nodes.specs.Stored.{as_stored}
 use Rattle.tree_nodes.proofs.Before.{AreBefore, IsBefore, IsOf, place_of}
 use Rattle.tree_nodes.proofs.Changes.{IsShownSo, changes_from, set_block}
@@ -99,11 +99,11 @@ leaf_map nodes cs s h b = record { keyed = all_keyed nodes cs s h; ordered = all
 -- ---- the lists of the tree
 abbrev inodes_in : List Change → Inodes
 inodes_in [] = []
-inodes_in (c ∷ cs) = with_inode (Some c) (inodes_in cs)
+inodes_in (c ∷ cs) = with_shown_inode (Some c) (inodes_in cs)
 
 abbrev blocks_in : List Change → Blocks
 blocks_in [] = []
-blocks_in (c ∷ cs) = with_block (Some c) (blocks_in cs)
+blocks_in (c ∷ cs) = with_shown_block (Some c) (blocks_in cs)
 
 abbrev names_in : List Change → Entries
 names_in [] = []
@@ -113,13 +113,13 @@ inodes_shown : (nodes : List Placed) (cs : List Change) → AreShown nodes cs �
 inodes_shown [] [] s = refl
 inodes_shown [] (c ∷ cs) s = absurd s
 inodes_shown (x ∷ nodes) [] s = absurd s
-inodes_shown (x ∷ nodes) (c ∷ cs) s = ap (λ o. with_inode o (inodes_of (map kept_at nodes))) s.1 ∙ ap (with_inode (Some c)) (inodes_shown nodes cs s.2)
+inodes_shown (x ∷ nodes) (c ∷ cs) s = ap (λ o. with_shown_inode o (inodes_of (map kept_at nodes))) s.1 ∙ ap (with_shown_inode (Some c)) (inodes_shown nodes cs s.2)
 
-blocks_shown : (nodes : List Placed) (cs : List Change) → AreShown nodes cs → blocks_of (map kept_at nodes) ≡ blocks_in cs
+blocks_shown : (nodes : List Placed) (cs : List Change) → AreShown nodes cs → blocks_shown_by (map kept_at nodes) ≡ blocks_in cs
 blocks_shown [] [] s = refl
 blocks_shown [] (c ∷ cs) s = absurd s
 blocks_shown (x ∷ nodes) [] s = absurd s
-blocks_shown (x ∷ nodes) (c ∷ cs) s = ap (λ o. with_block o (blocks_of (map kept_at nodes))) s.1 ∙ ap (with_block (Some c)) (blocks_shown nodes cs s.2)
+blocks_shown (x ∷ nodes) (c ∷ cs) s = ap (λ o. with_shown_block o (blocks_shown_by (map kept_at nodes))) s.1 ∙ ap (with_shown_block (Some c)) (blocks_shown nodes cs s.2)
 
 names_shown : (nodes : List Placed) (cs : List Change) → AreShown nodes cs → entries_of (map kept_at nodes) ≡ names_in cs
 names_shown [] [] s = refl
@@ -162,7 +162,7 @@ blocks_are tree (e ∷ inodes) =
     let bs = filter (λ (stored : (ℕ × ℕ) × List ℕ). stored.0.0 == e.0) tree.blocks in
     take_blocks bs (by_hash (entries_in tree e.0)) (changes_from tree inodes) ∙ ap (λ z. bs ++ z) (blocks_are tree inodes)
 
-pub blocks_found : (tree : Tree) (nodes : List Placed) → AreShown nodes (changes_from tree tree.inodes) → blocks_of (map kept_at nodes) ≡ blocks_by tree tree.inodes
+pub blocks_found : (tree : Tree) (nodes : List Placed) → AreShown nodes (changes_from tree tree.inodes) → blocks_shown_by (map kept_at nodes) ≡ blocks_by tree tree.inodes
 blocks_found tree nodes s = blocks_shown nodes (changes_from tree tree.inodes) s ∙ blocks_are tree tree.inodes
 
 -- the names, directory by directory

@@ -23,20 +23,20 @@ use Rattle.leaf_map.specs.Kept.{Placed, kept_at, node_key}
 use Rattle.leaf_map.specs.LeafMap.{IsLeafMap}
 use Rattle.leaf_map.specs.Parts.{is_shown}
 use Rattle.leaf_map.specs.Recovered.{highest_key}
-use Rattle.leaf_map.specs.Shown.{blocks_of, entries_of, tree_of}
+use Rattle.leaf_map.specs.Shown.{blocks_shown_by, entries_of, tree_of}
 use Rattle.image_maker.specs.Leaves.{stored_size}
-use Rattle.tree_nodes.specs.Stored.{AreNodesOf, IsLiveLeaf, as_stored, hash_and_name, is_owned, stored_tree}
+use Rattle.tree_nodes.specs.Stored.{AreNodesOfTree, IsLiveLeaf, as_stored, hash_and_name, is_owned, stored_tree}
 use Rattle.tree_nodes.proofs.Before.{IsOf, IsRowOf, all_before, all_in, all_of, each_is, sorted_are, sorted_ascend, sorted_rows}
 use Rattle.tree_nodes.proofs.Blocks.{blocks_owned}
 use Rattle.tree_nodes.proofs.Changes.{IsNamed, all_append, all_by_hash, all_filter, changes_from, changes_of, live_shown, names_named, nodes_of_changes, set_block}
 use Rattle.tree_nodes.proofs.Names.{IsFoundIn, names_same, own_names}
 use Rattle.tree_nodes.proofs.Shown.{AreShown, IsOfSome, are_shown, blocks_found, inodes_found, leaf_map, names_found}
 
-shows : (tree : Tree) (nodes : List Placed) → IsProper tree → AreNodesOf tree nodes → AreShown nodes (changes_from tree tree.inodes)
+shows : (tree : Tree) (nodes : List Placed) → IsProper tree → AreNodesOfTree tree nodes → AreShown nodes (changes_from tree tree.inodes)
 shows tree nodes p h = are_shown nodes (changes_from tree tree.inodes) (h ∙ sym (nodes_of_changes tree tree.inodes)) (live_shown tree p)
 
 -- they are the leaves of an index
-pub nodes_are_leaves : (tree : Tree) (nodes : List Placed) → IsProper tree → AreNodesOf tree nodes → IsLeafMap (map kept_at nodes)
+pub nodes_are_leaves : (tree : Tree) (nodes : List Placed) → IsProper tree → AreNodesOfTree tree nodes → IsLeafMap (map kept_at nodes)
 nodes_are_leaves tree nodes p h =
     leaf_map nodes (changes_from tree tree.inodes) (shows tree nodes p h) (all_of tree p.block_nodes p.blocks_ascend tree.inodes) (all_before tree p.block_nodes p.blocks_ascend tree.inodes p.inodes_ascend)
 
@@ -44,11 +44,11 @@ abbrev tree_with : Inodes → Blocks → Entries → ℕ → Tree
 tree_with inodes blocks entries highest = record { inodes = inodes; blocks = blocks; entries = entries; highest = highest }
 
 -- and show the tree
-pub nodes_show_tree : (tree : Tree) (nodes : List Placed) → IsProper tree → AreNodesOf tree nodes → tree_of (map kept_at nodes) tree.highest ≡ stored_tree tree
+pub nodes_show_tree : (tree : Tree) (nodes : List Placed) → IsProper tree → AreNodesOfTree tree nodes → tree_of (map kept_at nodes) tree.highest ≡ stored_tree tree
 nodes_show_tree tree nodes p h =
     let s = shows tree nodes p h in
     let kept = map kept_at nodes in
-    ap (λ z. tree_with z (blocks_of kept) (entries_of kept) tree.highest) (inodes_found tree nodes s)
+    ap (λ z. tree_with z (blocks_shown_by kept) (entries_of kept) tree.highest) (inodes_found tree nodes s)
     ∙ ap (λ z. tree_with (map (as_stored tree) tree.inodes) z (entries_of kept) tree.highest) (blocks_found tree nodes s ∙ blocks_owned tree p)
     ∙ ap (λ z. tree_with (map (as_stored tree) tree.inodes) (filter (is_owned tree) tree.blocks) z tree.highest) (names_found tree nodes s ∙ names_same tree p)
 
@@ -84,7 +84,7 @@ no_more top (x ∷ nodes) (c ∷ cs) s h =
     let same : max top (key_words (node_key x.node)).0 ≡ top = omega (arith, n, l) in
     ap (λ t. highest_key t (map (λ x. node_key x.node) nodes)) same ∙ no_more top nodes cs s.2 h.1
 
-pub highest_is : (tree : Tree) (nodes : List Placed) → IsProper tree → AreNodesOf tree nodes → highest_key tree.highest (map (λ x. node_key x.node) nodes) ≡ tree.highest
+pub highest_is : (tree : Tree) (nodes : List Placed) → IsProper tree → AreNodesOfTree tree nodes → highest_key tree.highest (map (λ x. node_key x.node) nodes) ≡ tree.highest
 highest_is tree nodes p h =
     let numbers = (and_parts (list_all (λ e. nat_le e.0 tree.highest) tree.inodes) (list_all (λ e. nat_le e.0.0 tree.highest) tree.blocks) (and_parts _ (list_all (λ e. nat_le e.0.0 tree.highest && nat_le e.1.ino tree.highest) tree.entries) p.numbers).0).0 in
     no_more tree.highest nodes (changes_from tree tree.inodes) (shows tree nodes p h) (within tree p tree.highest tree.inodes numbers)
@@ -162,7 +162,7 @@ live_leaves_are tree (x ∷ nodes) (c ∷ cs) s h n t = (
   live_leaves_are tree nodes cs s.2 h.1 n.1 t.1,
 )
 
-pub nodes_are_live : (tree : Tree) (nodes : List Placed) → IsProper tree → AreNodesOf tree nodes → AllByRecursion (IsLiveLeaf tree) nodes
+pub nodes_are_live : (tree : Tree) (nodes : List Placed) → IsProper tree → AreNodesOfTree tree nodes → AllByRecursion (IsLiveLeaf tree) nodes
 nodes_are_live tree nodes p h =
     live_leaves_are tree nodes (changes_from tree tree.inodes) (shows tree nodes p h) (all_of tree p.block_nodes p.blocks_ascend tree.inodes) (changes_fit tree p tree.inodes p.inode_nodes) (all_theirs tree p tree.inodes)
 

@@ -12,8 +12,8 @@ use Rattle.leaf_map.specs.Parts.{is_shown}
 use Rattle.image_maker.specs.Leaves.{live_leaves, stored_size}
 
 -- these nodes are the live nodes of a tree in their order, wherever they stand
-abbrev pub AreNodesOf : Tree → List Placed → Type 0
-AreNodesOf tree nodes = map (λ x. x.node) nodes ≡ live_leaves tree
+abbrev pub AreNodesOfTree : Tree → List Placed → Type 0
+AreNodesOfTree tree nodes = map (λ x. x.node) nodes ≡ live_leaves tree
 
 -- an inode as its node says it, of a directory with the links and the size that are reckoned
 abbrev pub as_stored : Tree → ℕ × Inode → ℕ × Inode

@@ -10,15 +10,15 @@ ghost use Rattle.leaf_map.specs.Kept.{Placed, kept_at, node_key};
 ghost use Rattle.leaf_map.specs.LeafMap.{IsLeafMap};
 ghost use Rattle.leaf_map.specs.Recovered.{highest_key};
 ghost use Rattle.leaf_map.specs.Shown.{tree_of};
-ghost use Rattle.tree_nodes.specs.Stored.{AreNodesOf, IsLiveLeaf, hash_and_name, is_owned, stored_tree};
+ghost use Rattle.tree_nodes.specs.Stored.{AreNodesOfTree, IsLiveLeaf, hash_and_name, is_owned, stored_tree};
 
 /// The live nodes of a proper tree, wherever they stand, are the leaves of an index and show that tree. Each is a node of the grammar, and
 /// none has an inode number above the tree's highest. Names of one hash are in order of name.
 pub fn live_nodes_show_their_tree()
-    ensures kept { (tree : Tree) (nodes : List Placed) → IsProper tree → AreNodesOf tree nodes → IsLeafMap (map kept_at nodes) }
-    ensures tree { (tree : Tree) (nodes : List Placed) → IsProper tree → AreNodesOf tree nodes → tree_of (map kept_at nodes) tree.highest ≡ stored_tree tree }
-    ensures highest { (tree : Tree) (nodes : List Placed) → IsProper tree → AreNodesOf tree nodes → highest_key tree.highest (map (λ x. node_key x.node) nodes) ≡ tree.highest }
-    ensures nodes { (tree : Tree) (nodes : List Placed) → IsProper tree → AreNodesOf tree nodes → AllByRecursion (IsLiveLeaf tree) nodes }
+    ensures kept { (tree : Tree) (nodes : List Placed) → IsProper tree → AreNodesOfTree tree nodes → IsLeafMap (map kept_at nodes) }
+    ensures tree { (tree : Tree) (nodes : List Placed) → IsProper tree → AreNodesOfTree tree nodes → tree_of (map kept_at nodes) tree.highest ≡ stored_tree tree }
+    ensures highest { (tree : Tree) (nodes : List Placed) → IsProper tree → AreNodesOfTree tree nodes → highest_key tree.highest (map (λ x. node_key x.node) nodes) ≡ tree.highest }
+    ensures nodes { (tree : Tree) (nodes : List Placed) → IsProper tree → AreNodesOfTree tree nodes → AllByRecursion (IsLiveLeaf tree) nodes }
     ensures names { (tree : Tree) (dir : ℕ) → IsTrue (ascends name_cmp (map hash_and_name (by_hash (entries_in tree dir)))) }
 {}
 

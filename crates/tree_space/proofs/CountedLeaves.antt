@@ -7,7 +7,7 @@ use Rattle.std.proofs.lemmas.List.{append-nil, length-map}
 use Rattle.std.proofs.lemmas.List.Sums.{sum_by-cons}
 use Rattle.ubifs_base.specs.declared.raw_geometry.RawGeometry.{RawGeometry}
 use Rattle.media_leaf.specs.LeafNode.{LeafNode}
-use Rattle.group_nodes.specs.Texts.{leaf_bytes}
+use Rattle.group_nodes.specs.Texts.{padded_leaf_bytes}
 use Rattle.fs_model.specs.Cover.{block_bytes, entry_bytes, inode_bytes, tree_bytes}
 use Rattle.fs_model.specs.Files.{Tree}
 use Rattle.plain_backing.specs.Covering.{leaf_count}
@@ -19,34 +19,34 @@ packed_none : (size taken : ℕ) → packed_leaves size taken [] ≡ taken ∷ [
 unfolding packed_leaves
 packed_none size taken = refl
 
-packed_fits : (size taken : ℕ) (leaf : LeafNode) (leaves : List LeafNode) → taken + leaf_bytes leaf ≤ size → packed_leaves size taken (leaf ∷ leaves) ≡ packed_leaves size (taken + leaf_bytes leaf) leaves
+packed_fits : (size taken : ℕ) (leaf : LeafNode) (leaves : List LeafNode) → taken + padded_leaf_bytes leaf ≤ size → packed_leaves size taken (leaf ∷ leaves) ≡ packed_leaves size (taken + padded_leaf_bytes leaf) leaves
 unfolding packed_leaves
-packed_fits size taken leaf leaves le = let e = le-leb (taken + leaf_bytes leaf) size le in rw e refl
+packed_fits size taken leaf leaves le = let e = le-leb (taken + padded_leaf_bytes leaf) size le in rw e refl
 
-packed_over : (size taken : ℕ) (leaf : LeafNode) (leaves : List LeafNode) → size < taken + leaf_bytes leaf → packed_leaves size taken (leaf ∷ leaves) ≡ taken ∷ packed_leaves size (leaf_bytes leaf) leaves
+packed_over : (size taken : ℕ) (leaf : LeafNode) (leaves : List LeafNode) → size < taken + padded_leaf_bytes leaf → packed_leaves size taken (leaf ∷ leaves) ≡ taken ∷ packed_leaves size (padded_leaf_bytes leaf) leaves
 unfolding packed_leaves
-packed_over size taken leaf leaves lt = let e = lt-leb (taken + leaf_bytes leaf) size lt in rw e refl
+packed_over size taken leaf leaves lt = let e = lt-leb (taken + padded_leaf_bytes leaf) size lt in rw e refl
 
 -- a leaf that fits is counted, and one that goes into the next LEB
-pub counts_fit : (geo : RawGeometry) (leaf : LeafNode) (len : ℕ) (before after : Tally) → leaf_bytes leaf ≡ len → after.leaves ≡ before.leaves + 1 → after.full ≡ before.full
+pub counts_fit : (geo : RawGeometry) (leaf : LeafNode) (len : ℕ) (before after : Tally) → padded_leaf_bytes leaf ≡ len → after.leaves ≡ before.leaves + 1 → after.full ≡ before.full
     → after.taken ≡ before.taken + len → before.taken + len ≤ geo.leb_size → Counts geo (leaf ∷ []) before after
 counts_fit geo leaf len before after long leaves full taken fits = record {
   leaves = omega (arith, leaves);
   full = λ h. omega (arith, h, leaves, full);
   lebs = λ more.
-      let now : after.taken ≡ before.taken + leaf_bytes leaf = omega (arith, taken, long) in
+      let now : after.taken ≡ before.taken + padded_leaf_bytes leaf = omega (arith, taken, long) in
       let e = ap length (packed_fits geo.leb_size before.taken leaf more (omega (arith, long, fits))) in
       let same = ap (λ (n : ℕ). length (packed_leaves geo.leb_size n more)) now in
       omega (arith, e, same, full);
 }
 
-pub counts_over : (geo : RawGeometry) (leaf : LeafNode) (len : ℕ) (before after : Tally) → leaf_bytes leaf ≡ len → after.leaves ≡ before.leaves + 1 → after.full ≡ before.full + 1
+pub counts_over : (geo : RawGeometry) (leaf : LeafNode) (len : ℕ) (before after : Tally) → padded_leaf_bytes leaf ≡ len → after.leaves ≡ before.leaves + 1 → after.full ≡ before.full + 1
     → after.taken ≡ len → geo.leb_size < before.taken + len → Counts geo (leaf ∷ []) before after
 counts_over geo leaf len before after long leaves full taken over = record {
   leaves = omega (arith, leaves);
   full = λ h. omega (arith, h, leaves, full);
   lebs = λ more.
-      let now : after.taken ≡ leaf_bytes leaf = omega (arith, taken, long) in
+      let now : after.taken ≡ padded_leaf_bytes leaf = omega (arith, taken, long) in
       let e = ap length (packed_over geo.leb_size before.taken leaf more (omega (arith, long, over))) in
       let same = ap (λ (n : ℕ). length (packed_leaves geo.leb_size n more)) now in
       omega (arith, e, same, full);

@@ -9,14 +9,14 @@ use Rattle.fs_model.specs.Files.{Tree}
 use Rattle.image_maker.specs.Leaves.{live_leaves}
 use Rattle.plain_backing.specs.Covering.{leaf_count}
 use Rattle.plain_backing.specs.FullIndex.{full_index_weight}
-use Rattle.tree_space.specs.Laid.{IsAdmitted, laid_weight}
+use Rattle.tree_space.specs.Laid.{IsTreeAdmitted, laid_weight}
 use Rattle.tree_space.proofs.CountedLeaves.{few_leaves}
 use Rattle.tree_space.proofs.Weights.{weight_few, weight_lowest}
 
 pub weighed : (geo : RawGeometry) (tree : Tree) → IsGeometry geo → length (live_leaves tree) ≤ geo.fanout * laid_weight geo tree
 weighed geo tree g = weight_lowest geo.fanout (length (live_leaves tree)) g.fanout.0
 
-pub admitted_fits : (geo : RawGeometry) (tree : Tree) → IsAdmitted geo tree
+pub admitted_fits : (geo : RawGeometry) (tree : Tree) → IsTreeAdmitted geo tree
     → tree_bytes tree ≤ (main_lebs geo - 3 * index_lebs geo (laid_weight geo tree) - 10) * (geo.leb_size - leb_reserve geo)
 admitted_fits geo tree h =
     let weight = laid_weight geo tree in

@@ -31,5 +31,5 @@ abbrev pub bytes_of_room : RawGeometry → Tree → ℕ
 bytes_of_room geo tree = room_for geo (laid_space geo tree) nothing_more
 
 -- admission takes the tree
-pub record IsAdmitted (geo : RawGeometry) (tree : Tree) : Type 0 where
+pub record IsTreeAdmitted (geo : RawGeometry) (tree : Tree) : Type 0 where
   pub fits : bytes_needed geo tree ≤ bytes_of_room geo tree

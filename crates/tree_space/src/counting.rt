@@ -3,7 +3,7 @@
 ghost use Rattle.std.specs.Prelude.{◌≡◌, ◌==◌, length, map, filter, IfOk, OnOk};
 ghost use Rattle.ubifs_base.specs.RawOf.{raw_of};
 ghost use Rattle.fs_model.specs.Proper.{IsProper};
-ghost use Rattle.image_maker.specs.Leaves.{block_leaf, entry_leaf, leaves_of, live_leaves};
+ghost use Rattle.image_maker.specs.Leaves.{block_leaf, entry_leaf, leaf_nodes_of, live_leaves};
 ghost use Rattle.image_maker.specs.Packed.{packed_leaves};
 ghost use Rattle.tree_space.specs.Counted.{CanTake, Counts};
 
@@ -70,8 +70,8 @@ fn take_inode(
     ino: u32,
     inode: &Inode,
 ) -> Result<(), Memory>
-    requires { CanTake (leaves_of tree.now (ino, inode.now)) tally.old }
-    ensures { OnOk result (Counts (raw_of geometry.now) (leaves_of tree.now (ino, inode.now)) tally.old tally.new) }
+    requires { CanTake (leaf_nodes_of tree.now (ino, inode.now)) tally.old }
+    ensures { OnOk result (Counts (raw_of geometry.now) (leaf_nodes_of tree.now (ino, inode.now)) tally.old tally.new) }
 {
     let entries = tree.entries_in(alloc, ino)?;
     let rows = by_hash(alloc, entries)?;

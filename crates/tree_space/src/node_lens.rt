@@ -1,7 +1,7 @@
 // The bytes that leaf nodes take.
 
 ghost use Rattle.std.specs.Prelude.{◌≡◌, ◌+◌, ◌<◌, ℕ, length};
-ghost use Rattle.group_nodes.specs.Texts.{leaf_bytes};
+ghost use Rattle.group_nodes.specs.Texts.{padded_leaf_bytes};
 ghost use Rattle.fs_model.specs.Cover.{round_8};
 ghost use Rattle.fs_model.specs.Files.{Tree as FilesTree};
 ghost use Rattle.image_maker.specs.Leaves.{block_leaf, entry_leaf, inode_leaf};
@@ -11,7 +11,7 @@ use ubifs_base::Bytes;
 
 // The bytes of an inode's node.
 pub(crate) fn inode_len(inode: &Inode) -> u64
-    ensures len { (tree : FilesTree) (ino : ℕ) → leaf_bytes (inode_leaf tree ino inode.now) ≡ result }
+    ensures len { (tree : FilesTree) (ino : ℕ) → padded_leaf_bytes (inode_leaf tree ino inode.now) ≡ result }
     ensures some { 0 < result }
 {
     node_len(160, inode.extra.as_slice())
@@ -19,7 +19,7 @@ pub(crate) fn inode_len(inode: &Inode) -> u64
 
 // The bytes of a block's node.
 pub(crate) fn block_len(bytes: &Bytes) -> u64
-    ensures len { (key : ℕ × ℕ) → leaf_bytes (block_leaf (key, bytes.now)) ≡ result }
+    ensures len { (key : ℕ × ℕ) → padded_leaf_bytes (block_leaf (key, bytes.now)) ≡ result }
     ensures some { 0 < result }
 {
     node_len(48, bytes.as_slice())
@@ -27,7 +27,7 @@ pub(crate) fn block_len(bytes: &Bytes) -> u64
 
 // The bytes of an entry's node.
 pub(crate) fn entry_len(entry: &Entry) -> u64
-    ensures len { leaf_bytes (entry_leaf entry.now) ≡ result }
+    ensures len { padded_leaf_bytes (entry_leaf entry.now) ≡ result }
     ensures some { 0 < result }
 {
     node_len(57, entry.name.as_slice())

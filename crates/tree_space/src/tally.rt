@@ -3,7 +3,7 @@
 ghost use Rattle.std.specs.Prelude.{◌≡◌, ◌<◌, ◌∷◌, [], List};
 ghost use Rattle.ubifs_base.specs.RawOf.{raw_of};
 ghost use Rattle.media_leaf.specs.LeafNode.{LeafNode};
-ghost use Rattle.group_nodes.specs.Texts.{leaf_bytes};
+ghost use Rattle.group_nodes.specs.Texts.{padded_leaf_bytes};
 ghost use Rattle.tree_space.specs.Counted.{CanTake, Counts};
 
 use ubifs_base::Geometry;
@@ -21,7 +21,7 @@ impl Tally {
     pub(crate) fn take(&mut self, geometry: &Geometry, len: u64)
         requires some { 0 < len }
         requires can { (leaf : LeafNode) × CanTake (leaf ∷ []) self.old }
-        ensures { (leaf : LeafNode) → leaf_bytes leaf ≡ len → Counts (raw_of geometry.now) (leaf ∷ []) self.old self.new }
+        ensures { (leaf : LeafNode) → padded_leaf_bytes leaf ≡ len → Counts (raw_of geometry.now) (leaf ∷ []) self.old self.new }
     {
         self.leaves += 1;
         let left = (geometry.leb_size as u64).saturating_sub(self.taken);

@@ -19,14 +19,14 @@ use Rattle.script_run.specs.declared.whole.Played.TheVariants.{Written}
 use Rattle.script_run.specs.declared.whole.Run.{Run}
 use Rattle.script_run.specs.Opening.{mounted_space}
 use Rattle.script_run.specs.Played.{IsPlayedOn, IsReadText}
-use Rattle.image_report.specs.Lebs.{AreLebsOf}
+use Rattle.image_report.specs.Lebs.{AreLebsOfGeometry}
 use Rattle.image_report.specs.Told.{HoldsFiles}
 use Rattle.io_edges.specs.Keeper.{KeeperState}
 use Rattle.ubifs_tools.specs.Command.{IsLeftImage, bad_line}
 use Rattle.ubifs_tools.specs.Copies.{IsUnfilled}
 use Rattle.ubifs_tools.specs.Making.{IsMadeOf}
 use Rattle.ubifs_tools.specs.Performed.{IsRunFrom}
-use Rattle.ubifs_tools.specs.RunCommand.{BeginsAsManifest, HasGoodText, IsBadText, IsCopyUnread, ImageRun, IsDone, IsRunFor, IsRunOf, files_left}
+use Rattle.ubifs_tools.specs.RunCommand.{BeginsAsManifest, HasGoodText, IsBadText, IsCopyUnread, ImageRun, IsRunDone, IsRunFor, IsRunOf, files_left}
 
 pub bad_script : (fault : TextFault) (volume script line word : List ℕ) → word ≡ codes "script" → HasGoodText volume → OnLine fault (IsFirstBadLine script) → OnLine fault (λ number. line ≡ bad_line word number) → (fault ≡ Memory → ⊥)
     → IsBadText (volume, script) line
@@ -35,7 +35,7 @@ bad_script (Line number) volume script line word e good bad told never = inr (go
 
 -- A run on what was made of a manifest is one on the manifest.
 pub made_done : (files : KeeperState) (text script told image : List ℕ) (parts : List Part) (out left : List ℕ) → BeginsAsManifest text → IsMadeOf files text told image → IsScript script parts → IsRunFrom image parts out left
-    → IsDone files (text, script) out left
+    → IsRunDone files (text, script) out left
 made_done files text script told image parts out left begins made is_script from = record {
   start = image;
   begun = inl (begins, (told, made));
@@ -52,7 +52,7 @@ made_done files text script told image parts out left begins made is_script from
 
 -- a run on an image
 pub image_done : (files : KeeperState) (bytes script : List ℕ) (parts : List Part) (out left : List ℕ) → (BeginsAsManifest bytes → ⊥) → IsScript script parts → IsRunFrom bytes parts out left
-    → IsDone files (bytes, script) out left
+    → IsRunDone files (bytes, script) out left
 image_done files bytes script parts out left none is_script from = record {
   start = bytes;
   begun = inr (none, refl);
@@ -69,7 +69,7 @@ image_done files bytes script parts out left none is_script from = record {
 
 -- what was put of a volume that may be written
 pub written_run : (geo : RawGeometry) (start : List ℕ) (tree : Tree) (space : Space) (parts : List Part) (run : Run) (image : List ℕ) → IsPlayedOn geo tree space parts (Written run)
-    → (x : ℕ → List ℕ) × IsLeftImage geo run.tree x × AreLebsOf x geo × (image ≡ image_of x geo.leb_cnt)
+    → (x : ℕ → List ℕ) × IsLeftImage geo run.tree x × AreLebsOfGeometry x geo × (image ≡ image_of x geo.leb_cnt)
     → (left : Tree) × IsRunOf (record { geo = geo; start = start; tree = tree; space = space; parts = parts; text = run.text.items; image = image; left = left })
 written_run geo start tree space parts run image played (holds, left, lebs, is) =
     let it : ImageRun = record { geo = geo; start = start; tree = tree; space = space; parts = parts; text = run.text.items; image = image; left = files_left run } in

@@ -10,7 +10,7 @@ use Rattle.io_edges.specs.Keeper.{KeeperState}
 use Rattle.ubifs_tools.specs.Command.{IsMissing, Told}
 use Rattle.ubifs_tools.specs.Copies.{AreCopiesTold, ComesTo, CopiesFile, FilesStay, IsFilledManifest, IsUnfilled, IsUnreadCopy}
 use Rattle.ubifs_tools.specs.Making.{HasNoImage, IsMadeOf, IsMkfsUnread, ReadsCopy}
-use Rattle.ubifs_tools.specs.RunCommand.{IsBadGeometry, IsBegunOn, IsCopyUnread, IsDone}
+use Rattle.ubifs_tools.specs.RunCommand.{IsBadGeometry, IsBegunOn, IsCopyUnread, IsRunDone}
 
 pub stay_all : (old mid new : KeeperState) → FilesStay old mid → FilesStay mid new → FilesStay old new
 stay_all old mid new a b = record {
@@ -108,7 +108,7 @@ pub begun_before : (old mid : KeeperState) (bytes start : List ℕ) → FilesSta
 begun_before old mid bytes start stay (inl (begins, (told, made))) = inl (begins, (told, made_before old mid bytes told start stay made))
 begun_before old mid bytes start stay (inr none) = inr none
 
-pub done_before : (old mid : KeeperState) (texts : List ℕ × List ℕ) (text image : List ℕ) → FilesStay old mid → IsDone mid texts text image → IsDone old texts text image
+pub done_before : (old mid : KeeperState) (texts : List ℕ × List ℕ) (text image : List ℕ) → FilesStay old mid → IsRunDone mid texts text image → IsRunDone old texts text image
 done_before old mid texts text image stay done = record {
   start = done.start;
   begun = begun_before old mid texts.0 done.start stay done.begun;

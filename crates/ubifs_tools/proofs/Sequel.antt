@@ -18,7 +18,7 @@ use Rattle.fs_model.specs.declared.refusal.Cause.{Cause}
 use Rattle.fs_model.specs.Settled.{settled}
 use Rattle.fs_model.specs.Files.{Blocks, Handles, Inodes, Tree, inode_at}
 use Rattle.fs_model.specs.Same.{IsSame}
-use Rattle.image_report.specs.Lebs.{AreLebsOf, AreSoundLebs}
+use Rattle.image_report.specs.Lebs.{AreLebsOfGeometry, AreSoundLebs}
 use Rattle.image_report.specs.Told.{HoldsFiles}
 use Rattle.io_edges.specs.Keeper.{KeeperState, SetsFile}
 use Rattle.script_run.specs.Opening.{mounted_space}
@@ -28,7 +28,7 @@ use Rattle.whole_image.specs.Made.{IsMadeImage}
 use Rattle.ubifs_tools.specs.Command.{IsLeftImage, Told, no_identifier}
 use Rattle.ubifs_tools.specs.Ended.{IsFinished}
 use Rattle.ubifs_tools.specs.Making.{IsToldImage}
-use Rattle.ubifs_tools.specs.RunCommand.{BeginsAsManifest, ImageRun, IsBegunOn, IsDone, IsRunFor, IsRunWritten, IsVolumeOf, files_left, mount_numbers}
+use Rattle.ubifs_tools.specs.RunCommand.{BeginsAsManifest, ImageRun, IsBegunOn, IsRunDone, IsRunFor, IsRunWritten, IsVolumeOf, files_left, mount_numbers}
 
 -- what the crates below say of the bytes of a volume, and of a stored tree
 abbrev pub HoldFiles : Type 0
@@ -36,7 +36,7 @@ HoldFiles = (contents : ℕ → List ℕ) (geo : RawGeometry) (tree : Tree) → 
     → HoldsFiles (image_of contents geo.leb_cnt) geo tree
 
 abbrev pub AreBytes : Type 0
-AreBytes = (contents : ℕ → List ℕ) (geo : RawGeometry) → AreLebsOf contents geo → IsBytes (image_of contents geo.leb_cnt)
+AreBytes = (contents : ℕ → List ℕ) (geo : RawGeometry) → AreLebsOfGeometry contents geo → IsBytes (image_of contents geo.leb_cnt)
 
 abbrev pub BeginWithMagic : Type 0
 BeginWithMagic = (bytes : List ℕ) (geo : RawGeometry) (tree : Tree) → HoldsFiles bytes geo tree → take 4 bytes ≡ 0x31 ∷ 0x18 ∷ 0x10 ∷ 0x06 ∷ []
@@ -80,7 +80,7 @@ not_manifest bytes magic begins =
     absurd (omega (arith, first))
 
 -- the contents of an image that a run leaves are sound
-left_lebs : (geo : RawGeometry) (tree : Tree) (holds : ℕ → List ℕ) → IsLeftImage geo tree holds → AreLebsOf holds geo → AreSoundLebs holds geo (stored_tree tree)
+left_lebs : (geo : RawGeometry) (tree : Tree) (holds : ℕ → List ℕ) → IsLeftImage geo tree holds → AreLebsOfGeometry holds geo → AreSoundLebs holds geo (stored_tree tree)
 unfolding IsLeftImage
 left_lebs geo tree holds left lebs =
     let made : IsMadeImage holds geo no_identifier tree = left in
@@ -107,16 +107,16 @@ run_bytes bytes None it run are = let P : List ℕ → Type 0 = λ b. IsBytes b 
 run_bytes bytes (Some cause) it run are = let P : List ℕ → Type 0 = λ b. IsBytes b in subst P (sym run.image_is) are
 
 -- the run of work that was done
-abbrev run_of : (files : KeeperState) (texts : List ℕ × List ℕ) (text image : List ℕ) → IsDone files texts text image → ImageRun
+abbrev run_of : (files : KeeperState) (texts : List ℕ × List ℕ) (text image : List ℕ) → IsRunDone files texts text image → ImageRun
 run_of files texts text image done =
     record { geo = done.geo; start = done.start; tree = done.tree; space = done.space; parts = done.parts; text = text; image = image; left = done.left }
 
-done_holds : HoldFiles → (files : KeeperState) (texts : List ℕ × List ℕ) (text image : List ℕ) (done : IsDone files texts text image) → HoldsFiles image done.geo done.left
+done_holds : HoldFiles → (files : KeeperState) (texts : List ℕ × List ℕ) (text image : List ℕ) (done : IsRunDone files texts text image) → HoldsFiles image done.geo done.left
 done_holds hold files texts text image done =
     let it : ImageRun = run_of files texts text image done in
     run_holds hold (settled done.geo (mount_numbers it)) it done.run done.volume.files
 
-done_bytes : AreBytes → (files : KeeperState) (texts : List ℕ × List ℕ) (text image : List ℕ) → IsDone files texts text image → IsBytes image
+done_bytes : AreBytes → (files : KeeperState) (texts : List ℕ × List ℕ) (text image : List ℕ) → IsRunDone files texts text image → IsBytes image
 done_bytes bytes files texts text image done =
     let it : ImageRun = run_of files texts text image done in
     run_bytes bytes (settled done.geo (mount_numbers it)) it done.run done.bytes
@@ -135,10 +135,10 @@ one_volume magic one other image geo more left tree bytes holds volume = by volu
     by (inr (none, same)) = let P : List ℕ → Type 0 = λ b. HoldsFiles b more tree in one image more geo tree left bytes (subst P same volume.holds) holds
 
 -- The image of a run is a volume of its geometry with the files that it left, and with no others.
-pub done_volume : HoldFiles → BeginWithMagic → (files other : KeeperState) (texts : List ℕ × List ℕ) (text image : List ℕ) (done : IsDone files texts text image) → IsVolumeOf other image done.geo done.left
+pub done_volume : HoldFiles → BeginWithMagic → (files other : KeeperState) (texts : List ℕ × List ℕ) (text image : List ℕ) (done : IsRunDone files texts text image) → IsVolumeOf other image done.geo done.left
 done_volume hold magic files other texts text image done = volume_of magic other image done.geo done.left (done_holds hold files texts text image done)
 
-pub done_only : HoldFiles → AreBytes → BeginWithMagic → HoldOneTree → (files other : KeeperState) (texts : List ℕ × List ℕ) (geo : RawGeometry) (tree : Tree) (text image : List ℕ) (done : IsDone files texts text image)
+pub done_only : HoldFiles → AreBytes → BeginWithMagic → HoldOneTree → (files other : KeeperState) (texts : List ℕ × List ℕ) (geo : RawGeometry) (tree : Tree) (text image : List ℕ) (done : IsRunDone files texts text image)
     → IsVolumeOf other image geo tree → (geo ≡ done.geo) × (tree ≡ done.left)
 done_only hold bytes magic one files other texts geo tree text image done volume =
     one_volume magic one other image done.geo geo done.left tree (done_bytes bytes files texts text image done) (done_holds hold files texts text image done) volume

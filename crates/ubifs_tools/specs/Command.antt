@@ -18,13 +18,13 @@ abbrev pub Told : KeeperState → List ℕ → List ℕ → Type 0
 Told files name bytes = IsTrue files.tells → files.content name ≡ Some bytes
 
 -- what was read: the bytes of a manifest or of an image, and a script's text
-pub record IsRead (files : KeeperState) (manifest script : List ℕ) (texts : List ℕ × List ℕ) : Type 0 where
+pub record IsInputRead (files : KeeperState) (manifest script : List ℕ) (texts : List ℕ × List ℕ) : Type 0 where
   pub manifest_told : Told files manifest texts.0
   pub script_told : Told files script texts.1
 
 -- the geometry that a manifest names
-abbrev pub geometry_of : Manifest → RawGeometry
-geometry_of m = plain_geometry m.leb_size m.min_io m.main m.fanout
+abbrev pub manifest_geometry : Manifest → RawGeometry
+manifest_geometry m = plain_geometry m.leb_size m.min_io m.main m.fanout
 
 -- the line that tells a text's first bad line
 abbrev pub bad_line : List ℕ → ℕ → List ℕ

@@ -2,8 +2,8 @@
 use Rattle.std.specs.Prelude.{◌≡◌, ℕ, IsTrue, List}
 use Rattle.ubifs_base.specs.Faults.{Rose}
 use Rattle.io_edges.specs.Keeper.{KeeperState, SameFiles, SetsFile}
-use Rattle.ubifs_tools.specs.Command.{IsRead, file_line}
-use Rattle.ubifs_tools.specs.RunCommand.{IsBadText, IsBadVolume, IsBadGeometry, IsDone, IsUnread}
+use Rattle.ubifs_tools.specs.Command.{IsInputRead, file_line}
+use Rattle.ubifs_tools.specs.RunCommand.{IsBadText, IsBadVolume, IsBadGeometry, IsRunDone, IsUnread}
 use Rattle.ubifs_tools.specs.declared.command.Ended.{Ended}
 use Rattle.ubifs_tools.specs.declared.command.Ended.TheVariants.{Unread, BadText, BadGeometry, Done}
 use Rattle.ubifs_tools.specs.declared.command.RunEnded.{RunEnded}
@@ -13,25 +13,25 @@ use Rattle.ubifs_tools.specs.declared.command.RunEnded.TheVariants as run
 pub record IsFinished (old new : KeeperState) (manifest script image : List ℕ) (text : List ℕ) : Type 0 where
   pub texts : List ℕ × List ℕ
   pub bytes : List ℕ
-  pub read : IsRead old manifest script texts
-  pub done : IsDone old texts text bytes
+  pub read : IsInputRead old manifest script texts
+  pub done : IsRunDone old texts text bytes
   pub written : IsTrue old.tells → SetsFile old image bytes new
   pub telling : new.tells ≡ old.tells
 
 -- nothing was done, because of what was read; the files are as they were
-pub record IsTurnedDown (old new : KeeperState) (manifest script : List ℕ) (Why : List ℕ × List ℕ → Type 0) : Type 0 where
+pub record IsRunTurnedDown (old new : KeeperState) (manifest script : List ℕ) (Why : List ℕ × List ℕ → Type 0) : Type 0 where
   pub texts : List ℕ × List ℕ
-  pub read : IsRead old manifest script texts
+  pub read : IsInputRead old manifest script texts
   pub why : Why texts
   pub same : SameFiles old new
 
 -- how a run ended
-abbrev pub IsEnded : KeeperState → KeeperState → List ℕ → List ℕ → List ℕ → RunEnded → Type 0
-IsEnded old new manifest script image (run.Unread line) = IsUnread old new manifest script image line.items × SameFiles old new
-IsEnded old new manifest script image (run.BadText line) = IsTurnedDown old new manifest script (λ texts. IsBadText texts line.items)
-IsEnded old new manifest script image (run.BadImage line) = IsTurnedDown old new manifest script (λ texts. IsBadVolume texts line.items)
-IsEnded old new manifest script image (run.BadGeometry line) = IsTurnedDown old new manifest script (λ texts. IsBadGeometry old texts line.items)
-IsEnded old new manifest script image (run.Done text) = IsFinished old new manifest script image text.items
+abbrev pub IsRunEnded : KeeperState → KeeperState → List ℕ → List ℕ → List ℕ → RunEnded → Type 0
+IsRunEnded old new manifest script image (run.Unread line) = IsUnread old new manifest script image line.items × SameFiles old new
+IsRunEnded old new manifest script image (run.BadText line) = IsRunTurnedDown old new manifest script (λ texts. IsBadText texts line.items)
+IsRunEnded old new manifest script image (run.BadImage line) = IsRunTurnedDown old new manifest script (λ texts. IsBadVolume texts line.items)
+IsRunEnded old new manifest script image (run.BadGeometry line) = IsRunTurnedDown old new manifest script (λ texts. IsBadGeometry old texts line.items)
+IsRunEnded old new manifest script image (run.Done text) = IsFinished old new manifest script image text.items
 
 -- the image of a run was written, which printed this; or the keeper failed, and the line names the image
 abbrev pub IsWrittenOut : KeeperState → KeeperState → List ℕ → List ℕ → List ℕ → RunEnded → Type 0

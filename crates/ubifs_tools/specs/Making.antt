@@ -12,13 +12,13 @@ use Rattle.fs_model.specs.Files.{Tree}
 use Rattle.fs_model.specs.Proper.{IsProper}
 use Rattle.script_text.specs.declared.manifest.Manifest.{Manifest}
 use Rattle.manifest_tree.specs.ManifestTree.{IsFirstBadTreeLine}
-use Rattle.tree_space.specs.Laid.{IsAdmitted, bytes_needed, bytes_of_room}
-use Rattle.image_report.specs.Lebs.{AreLebsOf}
+use Rattle.tree_space.specs.Laid.{IsTreeAdmitted, bytes_needed, bytes_of_room}
+use Rattle.image_report.specs.Lebs.{AreLebsOfGeometry}
 use Rattle.whole_image.specs.Made.{IsMadeImage, packed_geometry}
 use Rattle.io_edges.specs.Keeper.{KeeperState, SameFiles, SetsFile}
 use Rattle.ubifs_tools.specs.Copies.{CopiesFile, IsFilledManifest, IsUnfilled}
 use Rattle.ubifs_tools.specs.Pieces.{volume_image}
-use Rattle.ubifs_tools.specs.Command.{IsMissing, Told, bad_line, field_name, file_line, geometry_of, no_identifier}
+use Rattle.ubifs_tools.specs.Command.{IsMissing, Told, bad_line, field_name, file_line, manifest_geometry, no_identifier}
 use Rattle.ubifs_tools.specs.declared.command.Ended.{Ended}
 use Rattle.ubifs_tools.specs.declared.command.Ended.TheVariants.{Unread, BadText, BadGeometry, Done}
 use Rattle.ubifs_tools.specs.declared.mkfs.Copied.{Copied}
@@ -45,13 +45,13 @@ pub record IsTooFull (geo : RawGeometry) (tree : Tree) (line : List ℕ) : Type 
 pub record IsToldImage (geo : RawGeometry) (tree : Tree) (told image : List ℕ) : Type 0 where
   pub holds : ℕ → List ℕ
   pub made : IsMadeImage holds geo no_identifier tree
-  pub lebs : AreLebsOf holds geo
+  pub lebs : AreLebsOfGeometry holds geo
   pub image_is : image ≡ image_of holds geo.leb_cnt
   pub told_is : told ≡ line_of (codes "made" ∷ decimal geo.leb_cnt ∷ [])
 
 -- The geometry of the image that is made of a manifest. If that says `packed` it has just the main LEBs that its tree takes, and else as many as it says.
 abbrev pub made_geometry : Manifest → Tree → RawGeometry
-made_geometry volume tree = if volume.packed then packed_geometry (geometry_of volume) tree else geometry_of volume
+made_geometry volume tree = if volume.packed then packed_geometry (manifest_geometry volume) tree else manifest_geometry volume
 
 -- the first field of a geometry that is out of its range, and the line that tells it
 abbrev pub IsOutOfRange : RawGeometry → List ℕ → Type 0
@@ -63,15 +63,15 @@ pub record HasNoImage (files : KeeperState) (text line : List ℕ) : Type 0 wher
   pub volume : Manifest
   pub tree : Tree
   pub is : IsFilledManifest files text volume tree
-  pub why : IsOutOfRange (geometry_of volume) line
-      ⊎ (IsGeometry (geometry_of volume) × IsTrue volume.packed × IsOutOfRange (packed_geometry (geometry_of volume) tree) line)
-      ⊎ (IsGeometry (geometry_of volume) × (volume.packed ≡ false) × (volume.main < 24) × (line ≡ line_of (codes "small" ∷ decimal volume.main ∷ codes "24" ∷ [])))
-      ⊎ (IsGeometry (geometry_of volume) × (volume.packed ≡ false) × (24 ≤ volume.main) × IsTooFull (geometry_of volume) tree line)
+  pub why : IsOutOfRange (manifest_geometry volume) line
+      ⊎ (IsGeometry (manifest_geometry volume) × IsTrue volume.packed × IsOutOfRange (packed_geometry (manifest_geometry volume) tree) line)
+      ⊎ (IsGeometry (manifest_geometry volume) × (volume.packed ≡ false) × (volume.main < 24) × (line ≡ line_of (codes "small" ∷ decimal volume.main ∷ codes "24" ∷ [])))
+      ⊎ (IsGeometry (manifest_geometry volume) × (volume.packed ≡ false) × (24 ≤ volume.main) × IsTooFull (manifest_geometry volume) tree line)
 
 -- An image of a tree was made, and the line tells how many LEBs it has; or admission refuses the tree.
 abbrev pub IsImageMade : RawGeometry → Tree → MadeVolume → Type 0
 IsImageMade geo tree (on_volume.BadGeometry line) = IsTooFull geo tree line.items
-IsImageMade geo tree (on_volume.Done told made) = IsAdmitted geo tree × IsToldImage geo tree told.items (volume_image made)
+IsImageMade geo tree (on_volume.Done told made) = IsTreeAdmitted geo tree × IsToldImage geo tree told.items (volume_image made)
 
 -- An image of a tree was made on a volume with no LEB to spare, and the line tells how many LEBs it has. Or that volume has a field out of range.
 abbrev pub IsPackedMade : RawGeometry → Tree → MadeVolume → Type 0
@@ -83,8 +83,8 @@ pub record IsMadeOf (files : KeeperState) (text told image : List ℕ) : Type 0 
   pub volume : Manifest
   pub tree : Tree
   pub is : IsFilledManifest files text volume tree
-  pub geometry : IsGeometry (geometry_of volume)
-  pub roomy : volume.packed ≡ false → (24 ≤ volume.main) × IsAdmitted (geometry_of volume) tree
+  pub geometry : IsGeometry (manifest_geometry volume)
+  pub roomy : volume.packed ≡ false → (24 ≤ volume.main) × IsTreeAdmitted (manifest_geometry volume) tree
   pub made : IsToldImage (made_geometry volume tree) tree told image
 
 -- what became of a manifest's text and of the files that it copies

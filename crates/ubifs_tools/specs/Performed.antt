@@ -7,7 +7,7 @@ use Rattle.fs_model.specs.Files.{Tree}
 use Rattle.image_report.specs.Told.{HoldsVolume, IsUnsound}
 use Rattle.io_edges.specs.Keeper.{KeeperState}
 use Rattle.script_text.specs.declared.part.Part.{Part}
-use Rattle.ubifs_tools.specs.RunCommand.{IsBadGeometry, IsBadText, IsBadVolume, IsCopyUnread, IsDone, IsRunOf}
+use Rattle.ubifs_tools.specs.RunCommand.{IsBadGeometry, IsBadText, IsBadVolume, IsCopyUnread, IsRunDone, IsRunOf}
 use Rattle.ubifs_tools.specs.declared.beginning.RunOn.{RunOn}
 use Rattle.ubifs_tools.specs.declared.beginning.RunOn.TheVariants as on
 use Rattle.ubifs_tools.specs.declared.perform.Ran.{Ran}
@@ -34,4 +34,4 @@ IsRan old new texts (Unread line) = IsCopyUnread old new texts line.items
 IsRan old new texts (BadText line) = IsBadText texts line.items
 IsRan old new texts (BadImage line) = IsBadVolume texts line.items
 IsRan old new texts (BadGeometry line) = IsBadGeometry old texts line.items
-IsRan old new texts (Done text image) = IsDone old texts text.items image.items
+IsRan old new texts (Done text image) = IsRunDone old texts text.items image.items

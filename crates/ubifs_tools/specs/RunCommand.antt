@@ -8,7 +8,7 @@ use Rattle.fs_model.specs.declared.refusal.Cause.{Cause}
 use Rattle.fs_model.specs.declared.space.Space.{Space}
 use Rattle.fs_model.specs.Files.{Tree}
 use Rattle.fs_model.specs.Settled.{settled}
-use Rattle.image_report.specs.Lebs.{AreLebsOf}
+use Rattle.image_report.specs.Lebs.{AreLebsOfGeometry}
 use Rattle.image_report.specs.Told.{HoldsFiles, HoldsVolume, IsUnsound}
 use Rattle.io_edges.specs.Keeper.{KeeperState}
 use Rattle.script_text.specs.declared.part.Part.{Part}
@@ -20,7 +20,7 @@ use Rattle.script_run.specs.declared.whole.Run.{Run}
 use Rattle.script_run.specs.Opening.{mounted_space}
 use Rattle.script_run.specs.Played.{IsPlayed, IsReadText}
 use Rattle.tree_nodes.specs.Stored.{stored_tree}
-use Rattle.ubifs_tools.specs.Command.{IsLeftImage, IsMissing, IsRead, Told, bad_line, file_line}
+use Rattle.ubifs_tools.specs.Command.{IsLeftImage, IsMissing, IsInputRead, Told, bad_line, file_line}
 use Rattle.ubifs_tools.specs.Copies.{CopiesFile}
 use Rattle.ubifs_tools.specs.Making.{HasNoImage, IsBadTree, IsMadeOf}
 
@@ -80,7 +80,7 @@ IsUnread old new manifest script image line =
     (Rose old.faults new.faults × ((name : List ℕ) × ((name ≡ manifest) ⊎ (name ≡ script) ⊎ (name ≡ image)) × (line ≡ file_line name)))
     ⊎ (IsMissing old manifest × (line ≡ file_line manifest))
     ⊎ (((bytes : List ℕ) × Told old manifest bytes) × IsMissing old script × (line ≡ file_line script))
-    ⊎ ((texts : List ℕ × List ℕ) × IsRead old manifest script texts × IsCopyUnread old new texts line)
+    ⊎ ((texts : List ℕ × List ℕ) × IsInputRead old manifest script texts × IsCopyUnread old new texts line)
 
 -- The files that a run leaves, as its image says them: each directory has the links and the size that are reckoned, and a block of no inode isn't there.
 abbrev pub files_left : Run → Tree
@@ -109,7 +109,7 @@ pub record IsRunWritten (it : ImageRun) : Type 0 where
   pub text_is : it.text ≡ run.text.items
   pub holds : ℕ → List ℕ
   pub image_left : IsLeftImage it.geo run.tree holds
-  pub lebs : AreLebsOf holds it.geo
+  pub lebs : AreLebsOfGeometry holds it.geo
   pub image_is : it.image ≡ image_of holds it.geo.leb_cnt
   pub left_is : it.left ≡ files_left run
 
@@ -129,7 +129,7 @@ abbrev pub IsRunOf : ImageRun → Type 0
 IsRunOf it = IsRunFor (settled it.geo (mount_numbers it)) it
 
 -- The work was done. The volume is a manifest of which an image was made, or a sound image. The script is in its grammar, and it was run on the volume of that image.
-pub record IsDone (files : KeeperState) (texts : List ℕ × List ℕ) (text image : List ℕ) : Type 0 where
+pub record IsRunDone (files : KeeperState) (texts : List ℕ × List ℕ) (text image : List ℕ) : Type 0 where
   pub start : List ℕ
   pub begun : IsBegunOn files texts.0 start
   pub bytes : IsBytes start

@@ -2,7 +2,7 @@
 
 ghost use Rattle.std.specs.Prelude.{IfOk, OnErr};
 ghost use Rattle.io_edges.specs.Keeper.{SameFiles};
-ghost use Rattle.ubifs_tools.specs.Ended.{IsEnded, IsWrittenOut, NamesFile, NamesRunFile};
+ghost use Rattle.ubifs_tools.specs.Ended.{IsRunEnded, IsWrittenOut, NamesFile, NamesRunFile};
 
 use crate::perform::{Ran, perform};
 use io_edges::{KeepFault, Keeper};
@@ -42,7 +42,7 @@ pub(crate) fn run<R: Threads + Wait + Sync, K: Keeper, G: Gate + Sync>(
     keeper: &mut K,
     gate: &G,
 ) -> Result<RunEnded, Memory>
-    ensures ended { IfOk result (IsEnded (K.state keeper.old) (K.state keeper.new) manifest.now script.now image.now) }
+    ensures ended { IfOk result (IsRunEnded (K.state keeper.old) (K.state keeper.new) manifest.now script.now image.now) }
     ensures err { OnErr result (SameFiles (K.state keeper.old) (K.state keeper.new)) }
 {
     let volume = match keeper.read(manifest) {

@@ -5,8 +5,8 @@ ghost use Rattle.ubifs_base.specs.RawOf.{raw_of};
 ghost use Rattle.ubi_volume.specs.MemVolume.{IsBlank, state_of};
 ghost use Rattle.ubi_volume.specs.Volume.{image_of};
 ghost use Rattle.fs_model.specs.Proper.{IsProper};
-ghost use Rattle.image_maker.specs.Image.{shape_of};
-ghost use Rattle.image_report.specs.Lebs.{AreLebsOf};
+ghost use Rattle.image_maker.specs.Image.{shape_for};
+ghost use Rattle.image_report.specs.Lebs.{AreLebsOfGeometry};
 ghost use Rattle.whole_image.specs.Made.{IsCoveredTree};
 ghost use Rattle.ubifs_tools.specs.Command.{IsLeftImage};
 
@@ -27,7 +27,7 @@ pub(crate) fn image_bytes(
     requires small { geometry.now.big ≡ false }
     requires covered { IsCoveredTree (raw_of geometry.now) tree.now }
     ensures { IfOk result (λ image. (holds : ℕ → List ℕ) × IsLeftImage (raw_of geometry.now) tree.now holds
-        × AreLebsOf holds (raw_of geometry.now) × (image.items ≡ image_of holds geometry.now.leb_cnt)) }
+        × AreLebsOfGeometry holds (raw_of geometry.now) × (image.items ≡ image_of holds geometry.now.leb_cnt)) }
 {
     a_covered_tree_has_room();
     let mut volume = blank_volume(alloc, geometry)?;
@@ -40,7 +40,7 @@ pub(crate) fn image_bytes(
 
 // A volume of this geometry, in which nothing is written.
 pub(crate) fn blank_volume(alloc: Global, geometry: &Geometry) -> Result<MemVolume, Memory>
-    ensures { IfOk result (λ volume. IsBlank (shape_of (raw_of geometry.now)) (state_of volume)) }
+    ensures { IfOk result (λ volume. IsBlank (shape_for (raw_of geometry.now)) (state_of volume)) }
 {
     let shape = VolShape {
         leb_size: geometry.leb_size,

@@ -2,7 +2,7 @@
 
 ghost use Rattle.std.specs.Prelude.{◌≡◌, IfOk, OnErr};
 ghost use Rattle.io_edges.specs.Keeper.{SameFiles};
-ghost use Rattle.image_report.specs.Told.{IsText};
+ghost use Rattle.image_report.specs.Told.{IsReportText};
 ghost use Rattle.ubifs_tools.specs.Command.{file_line};
 ghost use Rattle.ubifs_tools.specs.ImageCommand.{Tells};
 ghost use Rattle.ubifs_tools.specs.Reported.{IsReported};
@@ -55,7 +55,7 @@ fn text_of<R: Threads + Sync>(
     command: ImageCommand,
     bytes: &[u8],
 ) -> Result<ImageText, Memory>
-    ensures { IfOk result (IsText (Tells command bytes.now) bytes.now) }
+    ensures { IfOk result (IsReportText (Tells command bytes.now) bytes.now) }
 {
     match command {
         ImageCommand::Check => check_text(rt, alloc, bytes),

@@ -9,7 +9,7 @@ ghost use Rattle.script_run.specs.declared.whole.Run.{Run};
 ghost use Rattle.tree_nodes.specs.Stored.{is_owned, stored_tree};
 ghost use Rattle.ubifs_tools.specs.Ended.{IsFinished};
 ghost use Rattle.ubifs_tools.specs.Making.{IsMadeOf, made_geometry};
-ghost use Rattle.ubifs_tools.specs.RunCommand.{IsDone, IsVolumeOf, files_left};
+ghost use Rattle.ubifs_tools.specs.RunCommand.{IsRunDone, IsVolumeOf, files_left};
 
 use image_report::{bytes_hold_one_tree, the_bytes_of_a_volume_hold_what_it_holds};
 use tree_nodes::a_stored_tree_is_the_same;
@@ -17,9 +17,9 @@ use tree_nodes::a_stored_tree_is_the_same;
 /// A run begins where another ended. The image of a run is a volume of its geometry with the files that the run left, and with no others.
 /// So a run on the file to which it was written begins with these. Of a volume that may be written they are, to every caller, the tree that was left, but for blocks of no inode.
 pub fn a_run_begins_where_another_ended()
-    ensures volume { (files other : KeeperState) (texts : List ℕ × List ℕ) (text image : List ℕ) (done : IsDone files texts text image)
+    ensures volume { (files other : KeeperState) (texts : List ℕ × List ℕ) (text image : List ℕ) (done : IsRunDone files texts text image)
         → IsVolumeOf other image done.geo done.left }
-    ensures only { (files other : KeeperState) (texts : List ℕ × List ℕ) (geo : RawGeometry) (tree : Tree) (text image : List ℕ) (done : IsDone files texts text image)
+    ensures only { (files other : KeeperState) (texts : List ℕ × List ℕ) (geo : RawGeometry) (tree : Tree) (text image : List ℕ) (done : IsRunDone files texts text image)
         → IsVolumeOf other image geo tree → (geo ≡ done.geo) × (tree ≡ done.left) }
     ensures next { (old mid new : KeeperState) (manifest script image other_script other_image text more : List ℕ) → IsTrue old.tells
         → (first : IsFinished old mid manifest script image text) (second : IsFinished mid new image other_script other_image more)

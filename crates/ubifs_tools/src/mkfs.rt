@@ -7,7 +7,7 @@ ghost use Rattle.text_lines.specs.Lines.{line_of};
 ghost use Rattle.fs_model.specs.Proper.{IsProper};
 ghost use Rattle.manifest_tree.specs.CopiedFiles.{IsNamedManifest};
 ghost use Rattle.io_edges.specs.Keeper.{KeeperState, SameFiles};
-ghost use Rattle.tree_space.specs.Laid.{IsAdmitted};
+ghost use Rattle.tree_space.specs.Laid.{IsTreeAdmitted};
 ghost use Rattle.ubifs_tools.specs.Copies.{FilesStay, IsFilledManifest};
 ghost use Rattle.ubifs_tools.specs.Making.{IsCopiedAs, IsFilledAs, IsImageMade, IsMkfsMade, IsMkfsEnded, IsPackedMade, IsVolumeMade, IsWrittenAs};
 ghost use Rattle.ubifs_tools.specs.Pieces.{volume_image};
@@ -193,7 +193,7 @@ fn admitted_image(alloc: Global, geometry: &Geometry, tree: &Tree) -> Result<Mad
 fn image_of_tree(alloc: Global, geometry: &Geometry, tree: &Tree) -> Result<MadeVolume, Memory>
     requires proper { IsProper tree.now }
     requires small { geometry.now.big ≡ false }
-    requires admitted { IsAdmitted (raw_of geometry.now) tree.now }
+    requires admitted { IsTreeAdmitted (raw_of geometry.now) tree.now }
     ensures { IfOk result (IsImageMade (raw_of geometry.now) tree.now) }
 {
     an_admitted_tree_fits();

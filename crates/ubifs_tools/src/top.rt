@@ -9,7 +9,7 @@ ghost use Rattle.command_words.specs.Words.{IsOutsideGrammar, OnImage, OnMkfs, O
 ghost use Rattle.ubifs_tools.specs.Command.{IsPrinted, IsTold};
 ghost use Rattle.ubifs_tools.specs.RunCommand.{IsBadText, IsBadVolume, IsBadGeometry, IsUnread};
 ghost use Rattle.ubifs_tools.specs.ImageCommand.{IsBadImage, IsNoImage, IsTextOf};
-ghost use Rattle.ubifs_tools.specs.Ended.{IsFinished, IsTurnedDown};
+ghost use Rattle.ubifs_tools.specs.Ended.{IsFinished, IsRunTurnedDown};
 ghost use Rattle.ubifs_tools.specs.Making.{HasNoImage, IsBadTree, IsMkfsFinished, IsMkfsTurnedDown, IsMkfsUnread};
 
 use crate::command::{Ended, RunEnded, run};
@@ -51,18 +51,18 @@ pub fn ubifs<R: Threads + Wait + Sync, K: Keeper, O: Sink, G: Gate + Sync>(
 
     // Nothing was done, and the line says why.
     ensures text { result ≡ 2 → OnRun (map string_bytes words.now) (λ manifest script image. (line : List ℕ)
-        × IsTurnedDown (K.state keeper.old) (K.state keeper.new) manifest script (λ texts. IsBadText texts line)
+        × IsRunTurnedDown (K.state keeper.old) (K.state keeper.new) manifest script (λ texts. IsBadText texts line)
         × IsPrinted (O.state out.old) (O.state out.new) line)
         ⊎ OnMkfs (map string_bytes words.now) (λ manifest image. (line : List ℕ)
         × IsMkfsTurnedDown (K.state keeper.old) (K.state keeper.new) manifest (λ text. IsBadTree text line)
         × IsPrinted (O.state out.old) (O.state out.new) line) }
     ensures image { result ≡ 3 → OnRun (map string_bytes words.now) (λ manifest script image. (line : List ℕ)
-        × IsTurnedDown (K.state keeper.old) (K.state keeper.new) manifest script (λ texts. IsBadVolume texts line)
+        × IsRunTurnedDown (K.state keeper.old) (K.state keeper.new) manifest script (λ texts. IsBadVolume texts line)
         × IsPrinted (O.state out.old) (O.state out.new) line)
         ⊎ OnImage (map string_bytes words.now) (λ command image. (line : List ℕ)
         × IsBadImage (K.state keeper.old) (K.state keeper.new) image line × IsPrinted (O.state out.old) (O.state out.new) line) }
     ensures geometry { result ≡ 7 → OnRun (map string_bytes words.now) (λ manifest script image. (line : List ℕ)
-        × IsTurnedDown (K.state keeper.old) (K.state keeper.new) manifest script (λ texts. IsBadGeometry (K.state keeper.old) texts line)
+        × IsRunTurnedDown (K.state keeper.old) (K.state keeper.new) manifest script (λ texts. IsBadGeometry (K.state keeper.old) texts line)
         × IsPrinted (O.state out.old) (O.state out.new) line)
         ⊎ OnMkfs (map string_bytes words.now) (λ manifest image. (line : List ℕ)
         × IsMkfsTurnedDown (K.state keeper.old) (K.state keeper.new) manifest (λ text. HasNoImage (K.state keeper.old) text line)
@@ -131,13 +131,13 @@ fn run_told<R: Threads + Wait + Sync, K: Keeper, O: Sink, G: Gate + Sync>(
     ensures done { result ≡ 0 → (text : List ℕ)
         × IsFinished (K.state keeper.old) (K.state keeper.new) manifest.now script.now image.now text × IsTold (O.state out.old) (O.state out.new) text }
     ensures text { result ≡ 2 → (line : List ℕ)
-        × IsTurnedDown (K.state keeper.old) (K.state keeper.new) manifest.now script.now (λ texts. IsBadText texts line)
+        × IsRunTurnedDown (K.state keeper.old) (K.state keeper.new) manifest.now script.now (λ texts. IsBadText texts line)
         × IsPrinted (O.state out.old) (O.state out.new) line }
     ensures image { result ≡ 3 → (line : List ℕ)
-        × IsTurnedDown (K.state keeper.old) (K.state keeper.new) manifest.now script.now (λ texts. IsBadVolume texts line)
+        × IsRunTurnedDown (K.state keeper.old) (K.state keeper.new) manifest.now script.now (λ texts. IsBadVolume texts line)
         × IsPrinted (O.state out.old) (O.state out.new) line }
     ensures geometry { result ≡ 7 → (line : List ℕ)
-        × IsTurnedDown (K.state keeper.old) (K.state keeper.new) manifest.now script.now (λ texts. IsBadGeometry (K.state keeper.old) texts line)
+        × IsRunTurnedDown (K.state keeper.old) (K.state keeper.new) manifest.now script.now (λ texts. IsBadGeometry (K.state keeper.old) texts line)
         × IsPrinted (O.state out.old) (O.state out.new) line }
     ensures files { result ≡ 4 → (line : List ℕ)
         × IsUnread (K.state keeper.old) (K.state keeper.new) manifest.now script.now image.now line

@@ -23,7 +23,7 @@ use Rattle.sound_image.specs.Laid.{BeginsAlone}
 use Rattle.sound_image.specs.OrphanLists.{HasOrphanNodes}
 use Rattle.sound_image.specs.Superblock.{BeginsWithSuper}
 use Rattle.volume_format.specs.Alone.{HoldsAlone}
-use Rattle.volume_format.specs.Format.{AreAreasLaid, IsMainLaid, IsNew, IsUnwritten, new_props, new_super, root_index, root_node}
+use Rattle.volume_format.specs.Format.{AreAreasLaid, IsMainLaid, IsNewVolume, IsUnwritten, new_props, new_super, root_index, root_node}
 use Rattle.volume_format.proofs.Areas.{alone_still}
 use Rattle.volume_format.proofs.Made.{Laid, PropertiesMet, is_new_system}
 
@@ -66,7 +66,7 @@ module _ (geo : RawGeometry) (g : IsGeometry geo) (small : geo.big ≡ false) (t
   main_low : 3 < main_first geo
   main_low = let logs = g.log_lebs.0 in omega (arith, logs)
 
-  pub formatted : (all : List ℕ) (node : Super) (r : Result (Unit {0}) AreaFault) → node ≡ new_super geo uuid → OnOk r (HoldsAlone geo s3 0 all × BeginsWithSuper (s3.holds 0) node) → OnOk r (IsNew s3.holds geo uuid now)
+  pub formatted : (all : List ℕ) (node : Super) (r : Result (Unit {0}) AreaFault) → node ≡ new_super geo uuid → OnOk r (HoldsAlone geo s3 0 all × BeginsWithSuper (s3.holds 0) node) → OnOk r (IsNewVolume s3.holds geo uuid now)
   formatted all node (Err fault) is done = tt
   formatted all node (Ok x) is done =
       let S : Super → Type 0 = λ node. BeginsWithSuper (s3.holds 0) node in

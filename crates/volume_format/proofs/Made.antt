@@ -47,7 +47,7 @@ use Rattle.small_areas.specs.Addresses.{addresses_of, first_past}
 use Rattle.volume_format.proofs.Addresses.{IsInArea, new_placed}
 use Rattle.sound_image.specs.Superblock.{BeginsWithSuper, HasSuperblock}
 use Rattle.laid_main.specs.Props.{prop_behind}
-use Rattle.volume_format.specs.Format.{IsNew, index_branch, new_master, new_props, new_super, root_index, root_leaf, root_node, root_placed}
+use Rattle.volume_format.specs.Format.{IsNewVolume, index_branch, new_master, new_props, new_super, root_index, root_leaf, root_node, root_placed}
 
 -- a node that stands alone in a LEB stands at its start
 alone_front : (leb node : List ℕ) (n : ℕ) → BeginsAlone leb node → length node ≡ n → take n leb ≡ node
@@ -319,13 +319,13 @@ module _ (geo : RawGeometry) (g : IsGeometry geo) (small : geo.big ≡ false) (t
 
   -- ---- and it is a new file system
   module _ (laid : Laid) where
-    pub is_new_system : IsNew c geo uuid now
+    pub is_new_system : IsNewVolume c geo uuid now
     is_new_system = by (laid.sound c geo latest (new_props geo) (new_placed_index geo) (root_placed geo now ∷ []) is_laid)
       where
         same_tree : tree_of_nodes latest.master (root_placed geo now ∷ []) ≡ tree_of_nodes (new_master geo at) (root_placed geo now ∷ [])
         same_tree = ap (λ (m : Master). tree_of_nodes m (root_placed geo now ∷ [])) is_new
 
-        by : (log : List LogText) × (references_of log ≡ []) × SoundImage c (laid_image geo latest (new_props geo) (new_placed_index geo) log (root_placed geo now ∷ [])) → IsNew c geo uuid now
+        by : (log : List LogText) × (references_of log ≡ []) × SoundImage c (laid_image geo latest (new_props geo) (new_placed_index geo) log (root_placed geo now ∷ [])) → IsNewVolume c geo uuid now
         by (log, none, sound) =
             let image = laid_image geo latest (new_props geo) (new_placed_index geo) log (root_placed geo now ∷ []) in
             record {

@@ -143,7 +143,7 @@ new_tree now = record { inodes = (1, root_inode now) ∷ []; blocks = []; entrie
 
 -- The contents are a sound image of a new file system of this geometry, made at this time, whose superblock has this identifier. Its latest master is the first
 -- one, over some tree of properties; all main LEBs but two are empty, and nothing is written in them. No bud holds a node.
-pub record IsNew (contents : ℕ → List ℕ) (geo : RawGeometry) (uuid : List ℕ) (now : ℕ) : Type 0 where
+pub record IsNewVolume (contents : ℕ → List ℕ) (geo : RawGeometry) (uuid : List ℕ) (now : ℕ) : Type 0 where
   pub superblock : BeginsWithSuper (contents 0) (new_super geo uuid)
   pub image : Image
   pub sound : SoundImage contents image

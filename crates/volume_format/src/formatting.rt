@@ -10,7 +10,7 @@ ghost use Rattle.ubi_volume.specs.Volume.{SameShape};
 ghost use Rattle.small_areas.specs.Copies.{IsMasterLeb};
 ghost use Rattle.small_areas.specs.Masters.{IsLatest};
 ghost use Rattle.small_areas.specs.declared.placed_master.PlacedMaster.{PlacedMaster as APlacedMaster};
-ghost use Rattle.volume_format.specs.Format.{AreAreasLaid, IsMainLaid, IsNew, IsUnwritten, new_master};
+ghost use Rattle.volume_format.specs.Format.{AreAreasLaid, IsMainLaid, IsNewVolume, IsUnwritten, new_master};
 
 use crate::index::write_index;
 use crate::log_start::start_log;
@@ -40,7 +40,7 @@ pub fn format<V: Volume>(
     requires small { geometry.now.big ≡ false }
     requires three { 3 ≤ main_lebs (raw_of geometry.now) }
     requires unwritten { IsUnwritten (V.state volume.old) }
-    ensures made { OnOk result (IsNew (V.state volume.new).holds (raw_of geometry.now) uuid.now now) }
+    ensures made { OnOk result (IsNewVolume (V.state volume.new).holds (raw_of geometry.now) uuid.now now) }
     ensures shape { SameShape (V.state volume.old) (V.state volume.new) }
     ensures cause { HasAreaCause (V.state volume.old).faults (V.state volume.new).faults result }
     ensures sure { StaysSureArea (V.state volume.old) (V.state volume.new) result }

@@ -11,7 +11,7 @@ use Rattle.ubifs_base.specs.declared.raw_geometry.RawGeometry.{RawGeometry}
 use Rattle.ubifs_base.specs.Geometry.{IsGeometry, index_node_len, index_nodes_per_leb, leb_reserve}
 use Rattle.fs_model.specs.Cover.{index_lebs, inode_bytes, tree_bytes}
 use Rattle.fs_model.specs.Files.{Inodes, Tree}
-use Rattle.image_maker.specs.Leaves.{leaves_of, live_leaves}
+use Rattle.image_maker.specs.Leaves.{leaf_nodes_of, live_leaves}
 use Rattle.image_maker.specs.Packed.{packed_leaves}
 use Rattle.laid_index.specs.Packing.{index_used}
 use Rattle.plain_backing.specs.Covering.{leaf_count}
@@ -56,7 +56,7 @@ some_bytes : (tree : Tree) → 0 < length (live_leaves tree) → 0 < tree_bytes 
 some_bytes tree some = by tree.inodes refl
   where
     by : (inodes : Inodes) → tree.inodes ≡ inodes → 0 < tree_bytes tree
-    by [] none = let e = ap (λ (xs : Inodes). length (flat_map (leaves_of tree) xs)) none in absurd (omega (arith, e, some))
+    by [] none = let e = ap (λ (xs : Inodes). length (flat_map (leaf_nodes_of tree) xs)) none in absurd (omega (arith, e, some))
     by (e ∷ inodes) is =
         let all = ap (λ (xs : Inodes). sum_by inode_bytes (values_of xs)) is in
         let first = sum_by-cons inode_bytes e.1 (values_of inodes) in

@@ -26,28 +26,28 @@ use Rattle.fs_model.specs.Proper.{IsProper}
 use Rattle.leaf_map.specs.Kept.{Placed, kept_at}
 use Rattle.sound_image.specs.Leaves.{IsPlacedIn}
 use Rattle.sound_image.specs.Properties.{is_unmarked, prop_of}
-use Rattle.laid_image.specs.Laid.{IsLaidNode, ShowTree, leaf_of, tree_of_nodes}
-use Rattle.laid_main.specs.Filling.{AreFilled, Takes}
+use Rattle.laid_image.specs.Laid.{IsLaidNode, ShowTree, leaf_of_placed, tree_of_nodes}
+use Rattle.laid_main.specs.Filling.{AreFilled, TakesOfLebs}
 use Rattle.laid_main.specs.Props.{laid_props, prop_behind}
-use Rattle.tree_nodes.specs.Stored.{AreNodesOf}
+use Rattle.tree_nodes.specs.Stored.{AreNodesOfTree}
 use Rattle.laid_tree.specs.Leaves.{AreLeavesLaid}
 use Rattle.laid_tree.specs.Standing.{StandInOrder, StandsUnmarked, is_plain}
 use Rattle.image_maker.specs.declared.laid_leaves.LaidLeaves.{LaidLeaves}
 use Rattle.laid_index.specs.Indexed.{IsLaidIndex}
 use Rattle.laid_index.specs.Packing.{index_used}
 use Rattle.laid_index.specs.declared.laid_index.LaidIndex.{LaidIndex}
-use Rattle.made_image.specs.Around.{IsBlankLeb, StandsPlain, made_master}
+use Rattle.made_image.specs.Around.{IsUnwrittenLeb, StandsPlain, made_master}
 use Rattle.made_image.specs.declared.filled_main.FilledMain.{FilledMain}
 use Rattle.whole_image.specs.Made.{HoldsTree, IsPlainTree}
 
 -- what other laws give
 pub record TreeLaws : Type 0 where
-  pub shows : (tree : Tree) (master : Master) (nodes : List Placed) → IsProper tree → AreNodesOf tree nodes → master.highest_inum ≡ tree.highest → nameless tree ≡ []
+  pub shows : (tree : Tree) (master : Master) (nodes : List Placed) → IsProper tree → AreNodesOfTree tree nodes → master.highest_inum ≡ tree.highest → nameless tree ≡ []
       → ShowTree (map kept_at nodes) (tree_of_nodes master nodes)
-  pub laid : (contents : ℕ → List ℕ) (geo : RawGeometry) (props : List Lprop) (tree : Tree) (nodes : List Placed) → IsProper tree → AreNodesOf tree nodes
+  pub laid : (contents : ℕ → List ℕ) (geo : RawGeometry) (props : List Lprop) (tree : Tree) (nodes : List Placed) → IsProper tree → AreNodesOfTree tree nodes
       → IsTrue (list_all is_plain tree.inodes) → AllByRecursion (StandsUnmarked contents geo props) nodes → AllByRecursion (IsLaidNode contents geo props) nodes
-  pub disjoint : (lnum offs : ℕ) (nodes : List Placed) → StandInOrder lnum offs nodes → IsTrue (are_disjoint (map branch_to (map leaf_of nodes)))
-  pub distinct : (lnum offs : ℕ) (nodes : List Placed) → StandInOrder lnum offs nodes → AreDistinct (map leaf_of nodes)
+  pub disjoint : (lnum offs : ℕ) (nodes : List Placed) → StandInOrder lnum offs nodes → IsTrue (are_disjoint (map branch_to (map leaf_of_placed nodes)))
+  pub distinct : (lnum offs : ℕ) (nodes : List Placed) → StandInOrder lnum offs nodes → AreDistinct (map leaf_of_placed nodes)
   pub leaves : (geo : RawGeometry) (leaves index : List ℕ) (i : ℕ) → i < length leaves → slice_get (laid_props geo leaves index) i ≡ Some (prop_behind geo (get_or leaves i 0) false)
 
 nowhere : LptAt
@@ -72,13 +72,13 @@ module _ (geo : RawGeometry) (tree : Tree) (main : FilledMain) (state : VolumeSt
       rw (le-ltb lnum first low) (laws.leaves geo main.leaves.items [] (lnum - first) (omega (arith, low, high))) in
       ap (λ o. option_map_or (λ (prop : Lprop). not prop.index) o false) there
 
-  all_unmarked : (xs : List Placed) → All (Lies first behind) (map branch_to (map leaf_of xs)) → AllByRecursion (IsPlacedIn state.holds) xs → AllByRecursion (StandsUnmarked state.holds geo props) xs
+  all_unmarked : (xs : List Placed) → All (Lies first behind) (map branch_to (map leaf_of_placed xs)) → AllByRecursion (IsPlacedIn state.holds) xs → AllByRecursion (StandsUnmarked state.holds geo props) xs
   all_unmarked [] within stand = tt
   all_unmarked (x ∷ xs) within stand =
       let P : Branch → Type 0 = Lies first behind in
-      let rest = map branch_to (map leaf_of xs) in
-      let here = All-head P (branch_to (leaf_of x)) rest within in
-      (record { stands = stand.0; unmarked = unmarked x.lnum here.0 here.1 }, all_unmarked xs (All-tail P (branch_to (leaf_of x)) rest within) stand.1)
+      let rest = map branch_to (map leaf_of_placed xs) in
+      let here = All-head P (branch_to (leaf_of_placed x)) rest within in
+      (record { stands = stand.0; unmarked = unmarked x.lnum here.0 here.1 }, all_unmarked xs (All-tail P (branch_to (leaf_of_placed x)) rest within) stand.1)
 
   all_plain : (xs : List Placed) → AllByRecursion (IsLaidNode state.holds geo props) xs → AllByRecursion (StandsPlain state.holds) xs
   all_plain [] laid = tt
@@ -86,7 +86,7 @@ module _ (geo : RawGeometry) (tree : Tree) (main : FilledMain) (state : VolumeSt
 
   module _ (proper : IsProper tree) (can : IsPlainTree tree) (leaves : AreLeavesLaid geo state.holds tree nodes main.leaves.items)
       (index : IsStoredIndex state.holds geo.fanout main.root placed) (key : map (λ (branch : Branch). branch.key) (take 1 (branches_of index.children)) ≡ main.root.key ∷ [])
-      (said : leaves_in (plain placed) ≡ map leaf_of nodes) (takes : Takes (main_first geo + length main.leaves.items) main.index.items (all_nodes placed))
+      (said : leaves_in (plain placed) ≡ map leaf_of_placed nodes) (takes : TakesOfLebs (main_first geo + length main.leaves.items) main.index.items (all_nodes placed))
       (filled_there : AreFilled geo state.holds (main_first geo + length main.leaves.items) main.index.items) (room : length main.leaves.items + length main.index.items < main_lebs geo)
       (highest : main.highest ≡ tree.highest) (blank : (lnum : ℕ) → lnum < main_first geo → state.holds lnum ≡ filled state.leb_size [])
       (open_there : (lnum : ℕ) → IsMasterLeb lnum → state.written lnum ≡ 0) where
@@ -141,12 +141,12 @@ LeavesStay = (geo : RawGeometry) (old new : ℕ → List ℕ) (tree : Tree) (nod
 
 -- what is told of leaves that were laid
 abbrev pub StandLaid : RawGeometry → Tree → (ℕ → List ℕ) → LaidLeaves → Type 0
-StandLaid geo tree contents laid = (nodes : List Placed) × AreLeavesLaid geo contents tree nodes laid.used.items × (laid.leaves.items ≡ map leaf_of nodes) × (laid.sqnum ≡ length nodes + 1)
+StandLaid geo tree contents laid = (nodes : List Placed) × AreLeavesLaid geo contents tree nodes laid.used.items × (laid.leaves.items ≡ map leaf_of_placed nodes) × (laid.sqnum ≡ length nodes + 1)
 
 module _ (laws : TreeLaws) (kept : LeavesStay) (geo : RawGeometry) (g : IsGeometry geo) (tree : Tree) (proper : IsProper tree) (can : IsPlainTree tree) (v1 v2 v3 : VolumeState)
     (laid : LaidLeaves) (stand : StandLaid geo tree v1.holds laid)
     (unwritten : (n : ℕ) → n < geo.leb_cnt → (n < main_first geo) ⊎ (main_first geo + length laid.used.items ≤ n) → v1.holds n ≡ filled geo.leb_size [])
-    (opened : (lnum : ℕ) → IsMasterLeb lnum → IsBlankLeb v2 lnum) (second : (lnum : ℕ) → (IsMasterLeb lnum → ⊥) → IsSameLeb v1 v2 lnum)
+    (opened : (lnum : ℕ) → IsMasterLeb lnum → IsUnwrittenLeb v2 lnum) (second : (lnum : ℕ) → (IsMasterLeb lnum → ⊥) → IsSameLeb v1 v2 lnum)
     (leaves : List Leaf) (are : leaves ≡ laid.leaves.items) (at sqnum : ℕ) (at_is : at ≡ main_first geo + length laid.used.items) (made : LaidIndex) (indexed : IsLaidIndex geo v3.holds leaves at sqnum made)
     (third : (k : ℕ) → (k < at) ⊎ (at + length (index_used geo (length leaves)) ≤ k) → IsSameLeb v2 v3 k)
     (fits : length (index_used geo (length leaves)) + length laid.used.items + 1 ≤ main_lebs geo) (size2 : v2.leb_size ≡ geo.leb_size) (size3 : v3.leb_size ≡ geo.leb_size)
@@ -170,7 +170,7 @@ module _ (laws : TreeLaws) (kept : LeavesStay) (geo : RawGeometry) (g : IsGeomet
   pub all_laid : HoldsTree geo v3 tree (record { leaves = laid.used; index = made.used; root = made.root; highest = highest })
   all_laid =
       let many = ap length indexed.used in
-      let T : ℕ → Type 0 = λ n. Takes n made.used.items (all_nodes indexed.placed) in
+      let T : ℕ → Type 0 = λ n. TakesOfLebs n made.used.items (all_nodes indexed.placed) in
       let F : ℕ → Type 0 = λ n. AreFilled geo v3.holds n made.used.items in
       holds_tree geo tree (record { leaves = laid.used; index = made.used; root = made.root; highest = highest }) v3 stand.0 indexed.placed laws proper can leaves_stay indexed.index indexed.key
       (indexed.holds ∙ are ∙ stand.2) (subst T at_is indexed.takes) (subst F at_is indexed.filled) (omega (arith, many, fits)) same blank_before open_still

@@ -14,12 +14,12 @@ use Rattle.fs_model.specs.Files.{Inodes, Tree}
 use Rattle.fs_model.specs.Proper.{IsProper, has_kind}
 use Rattle.image_maker.specs.Leaves.{live_leaves}
 use Rattle.image_maker.specs.Packed.{packed_leaves}
-use Rattle.whole_image.specs.Made.{IsCrowded, IsNotPlain, IsOutOfLebs, IsRefused, most_leaf_bytes, packed_lebs}
+use Rattle.whole_image.specs.Made.{IsCrowded, IsNotPlain, IsOutOfLebs, IsImageRefused, most_leaf_bytes, packed_lebs}
 use Rattle.whole_image.specs.declared.make_fault.MakeFault.{MakeFault}
 use Rattle.whole_image.specs.declared.make_fault.MakeFault.TheVariants.{Memory, Unreserved, Nameless, Attribute, Full, Crowded}
 use Rattle.whole_image.proofs.Covered.{factor_le, part_small}
 
-pub not_plain : (geo : RawGeometry) (tree : Tree) (fault : MakeFault) → IsNotPlain tree fault → IsRefused geo tree fault
+pub not_plain : (geo : RawGeometry) (tree : Tree) (fault : MakeFault) → IsNotPlain tree fault → IsImageRefused geo tree fault
 not_plain geo tree Memory why = tt
 not_plain geo tree (Unreserved highest) why = why
 not_plain geo tree (Nameless count) why = why
@@ -27,7 +27,7 @@ not_plain geo tree Attribute why = why
 not_plain geo tree (Full need room) why = absurd why
 not_plain geo tree (Crowded need room) why = absurd why
 
-out_of_lebs : (geo : RawGeometry) (tree : Tree) (fault : MakeFault) → IsOutOfLebs geo tree fault → IsRefused geo tree fault
+out_of_lebs : (geo : RawGeometry) (tree : Tree) (fault : MakeFault) → IsOutOfLebs geo tree fault → IsImageRefused geo tree fault
 out_of_lebs geo tree Memory why = tt
 out_of_lebs geo tree (Unreserved highest) why = absurd why
 out_of_lebs geo tree (Nameless count) why = absurd why
@@ -35,7 +35,7 @@ out_of_lebs geo tree Attribute why = absurd why
 out_of_lebs geo tree (Full need room) why = absurd why
 out_of_lebs geo tree (Crowded need room) why = why
 
-pub all_out_of_lebs : {T : Type 0} (geo : RawGeometry) (tree : Tree) (r : Result T MakeFault) → IfErr r (IsOutOfLebs geo tree) → IfErr r (IsRefused geo tree)
+pub all_out_of_lebs : {T : Type 0} (geo : RawGeometry) (tree : Tree) (r : Result T MakeFault) → IfErr r (IsOutOfLebs geo tree) → IfErr r (IsImageRefused geo tree)
 all_out_of_lebs geo tree (Ok x) why = tt
 all_out_of_lebs geo tree (Err fault) why = out_of_lebs geo tree fault why
 

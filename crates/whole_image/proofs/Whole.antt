@@ -15,7 +15,7 @@ use Rattle.leaf_map.specs.Recovered.{tree_found}
 use Rattle.sound_image.specs.Image.{parts_of}
 use Rattle.sound_image.specs.Sound.{SoundImage}
 use Rattle.laid_image.specs.Laid.{IsLaidImage, laid_image, tree_of_nodes}
-use Rattle.tree_nodes.specs.Stored.{AreNodesOf, stored_tree}
+use Rattle.tree_nodes.specs.Stored.{AreNodesOfTree, stored_tree}
 use Rattle.made_image.specs.Around.{IsMadeAround, props_over}
 use Rattle.made_image.specs.declared.filled_main.FilledMain.{FilledMain}
 use Rattle.whole_image.specs.Made.{HoldsTree, IsMadeImage}
@@ -29,7 +29,7 @@ pub record ImageLaws : Type 0 where
   pub tree : (geo : RawGeometry) (latest : PlacedMaster) (props : List Lprop) (placed : PlacedRow) (log : List LogText) (nodes : List Placed) (contents : ℕ → List ℕ)
       → references_of log ≡ [] → IsLaidImage contents geo latest props placed nodes
       → tree_found (parts_of (laid_image geo latest props placed log nodes)) ≡ tree_of_nodes latest.master nodes
-  pub shown : (tree : Tree) (master : Master) (nodes : List Placed) → IsProper tree → AreNodesOf tree nodes → master.highest_inum ≡ tree.highest
+  pub shown : (tree : Tree) (master : Master) (nodes : List Placed) → IsProper tree → AreNodesOfTree tree nodes → master.highest_inum ≡ tree.highest
       → tree_of_nodes master nodes ≡ stored_tree tree
 
 module _ (laws : ImageLaws) (geo : RawGeometry) (uuid : List ℕ) (tree : Tree) (proper : IsProper tree) (main : FilledMain) (state : VolumeState) (held : HoldsTree geo state tree main)

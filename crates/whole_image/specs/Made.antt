@@ -14,7 +14,7 @@ use Rattle.leaf_map.specs.Kept.{Placed}
 use Rattle.sound_image.specs.Image.{Image}
 use Rattle.sound_image.specs.Sound.{SoundImage}
 use Rattle.sound_image.specs.Summary.{is_clean, tree_of_image}
-use Rattle.tree_nodes.specs.Stored.{AreNodesOf, stored_tree}
+use Rattle.tree_nodes.specs.Stored.{AreNodesOfTree, stored_tree}
 use Rattle.image_maker.specs.Leaves.{live_leaves}
 use Rattle.image_maker.specs.Packed.{packed_leaves}
 use Rattle.plain_backing.specs.Covering.{leaf_count}
@@ -32,7 +32,7 @@ pub record IsMadeImage (contents : ℕ → List ℕ) (geo : RawGeometry) (uuid :
   pub placed : PlacedRow
   pub nodes : List Placed
   pub last : ℕ
-  pub are : AreNodesOf tree nodes
+  pub are : AreNodesOfTree tree nodes
   pub around : IsMadeAround contents geo uuid last main placed nodes
   pub image : Image
   pub sound : SoundImage contents image
@@ -76,13 +76,13 @@ pub record IsCoveredTree (geo : RawGeometry) (tree : Tree) : Type 0 where
   pub fits : tree_bytes tree ≤ (main_lebs geo - 3 * index_lebs geo weight - 6) * (geo.leb_size - leb_reserve geo)
 
 -- why no image of a tree is made; want of memory is free
-abbrev pub IsRefused : RawGeometry → Tree → MakeFault → Type 0
-IsRefused geo tree Memory = ⊤
-IsRefused geo tree (Unreserved highest) = (highest ≡ tree.highest) × (highest < 64)
-IsRefused geo tree (Nameless count) = (count ≡ length (nameless tree)) × (0 < count)
-IsRefused geo tree Attribute = list_all is_plain tree.inodes ≡ false
-IsRefused geo tree (Full need room) = (need ≡ tree_bytes tree) × (room ≡ most_leaf_bytes geo) × (room < need)
-IsRefused geo tree (Crowded need room) = IsCrowded geo tree need room
+abbrev pub IsImageRefused : RawGeometry → Tree → MakeFault → Type 0
+IsImageRefused geo tree Memory = ⊤
+IsImageRefused geo tree (Unreserved highest) = (highest ≡ tree.highest) × (highest < 64)
+IsImageRefused geo tree (Nameless count) = (count ≡ length (nameless tree)) × (0 < count)
+IsImageRefused geo tree Attribute = list_all is_plain tree.inodes ≡ false
+IsImageRefused geo tree (Full need room) = (need ≡ tree_bytes tree) × (room ≡ most_leaf_bytes geo) × (room < need)
+IsImageRefused geo tree (Crowded need room) = IsCrowded geo tree need room
 
 -- why the main LEBs don't take a tree whose leaves they take
 abbrev pub IsOutOfLebs : RawGeometry → Tree → MakeFault → Type 0
@@ -108,7 +108,7 @@ pub record HoldsTree (geo : RawGeometry) (state : VolumeState) (tree : Tree) (ma
   pub nodes : List Placed
   pub indexed : HoldsIndexed geo state.holds main placed nodes
   pub taken : AreMainFilled geo main
-  pub are : AreNodesOf tree nodes
+  pub are : AreNodesOfTree tree nodes
   pub highest : main.highest ≡ tree.highest
   pub blank : (lnum : ℕ) → lnum < main_first geo → state.holds lnum ≡ filled state.leb_size []
   pub open_there : (lnum : ℕ) → IsMasterLeb lnum → state.written lnum ≡ 0

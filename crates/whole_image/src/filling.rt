@@ -7,12 +7,12 @@ ghost use Rattle.ubi_volume.specs.MemVolume.{IsBlank, state_of};
 ghost use Rattle.ubi_volume.specs.Volume.{SameShape};
 ghost use Rattle.fs_model.specs.Cover.{tree_bytes};
 ghost use Rattle.fs_model.specs.Proper.{IsProper};
-ghost use Rattle.image_maker.specs.Image.{shape_of};
+ghost use Rattle.image_maker.specs.Image.{shape_for};
 ghost use Rattle.image_maker.specs.Leaves.{live_leaves};
 ghost use Rattle.image_maker.specs.Packed.{packed_leaves};
 ghost use Rattle.ubi_volume.specs.Frame.{IsSameLeb};
 ghost use Rattle.small_areas.specs.Copies.{IsMasterLeb};
-ghost use Rattle.made_image.specs.Around.{IsBlankLeb};
+ghost use Rattle.made_image.specs.Around.{IsUnwrittenLeb};
 ghost use Rattle.whole_image.specs.Made.{HoldsTree, IsOutOfLebs, IsPlainTree};
 
 use crate::make_fault::MakeFault;
@@ -46,7 +46,7 @@ pub(crate) fn fill_main(
     geometry: &Geometry,
     tree: &Tree,
 ) -> Result<Filling, MakeFault>
-    requires volume { IsBlank (shape_of (raw_of geometry.now)) (state_of volume.old) }
+    requires volume { IsBlank (shape_for (raw_of geometry.now)) (state_of volume.old) }
     requires proper { IsProper tree.now }
     requires plain { IsPlainTree tree.now }
     requires few { tree_bytes tree.now ≤ 2 ^ 30 }
@@ -93,7 +93,7 @@ pub(crate) fn fill_main(
 // Makes sure that the LEBs of both masters, in which nothing is written, are open for writing.
 fn open_masters<V: Volume>(volume: &mut V) -> Result<(), VolFault>
     requires lebs { 2 < (V.state volume.old).leb_cnt }
-    ensures opened { OnOk result ((lnum : ℕ) → IsMasterLeb lnum → IsBlankLeb (V.state volume.new) lnum) }
+    ensures opened { OnOk result ((lnum : ℕ) → IsMasterLeb lnum → IsUnwrittenLeb (V.state volume.new) lnum) }
     ensures others { (lnum : ℕ) → (IsMasterLeb lnum → ⊥) → IsSameLeb (V.state volume.old) (V.state volume.new) lnum }
     ensures shape { SameShape (V.state volume.old) (V.state volume.new) }
 {

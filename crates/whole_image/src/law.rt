@@ -6,7 +6,7 @@ ghost use Rattle.ubifs_base.specs.Geometry.{IsGeometry};
 ghost use Rattle.fs_model.specs.Cover.{tree_bytes};
 ghost use Rattle.fs_model.specs.Files.{Tree as FilesTree};
 ghost use Rattle.fs_model.specs.Proper.{IsProper};
-ghost use Rattle.tree_space.specs.Laid.{IsAdmitted};
+ghost use Rattle.tree_space.specs.Laid.{IsTreeAdmitted};
 ghost use Rattle.whole_image.specs.Made.{IsCoveredTree, IsCrowded, most_leaf_bytes};
 
 use image_maker::leaves_of_a_tree_are_few;
@@ -25,8 +25,8 @@ pub fn a_covered_tree_has_room()
 
 /// A tree that admission takes has room too, since admission keeps more LEBs: no image of it is refused as full or crowded.
 pub fn an_admitted_tree_fits()
-    ensures full { (geo : Raw) (tree : FilesTree) → IsAdmitted geo tree → tree_bytes tree ≤ most_leaf_bytes geo }
-    ensures crowded { (geo : Raw) (tree : FilesTree) (need room : ℕ) → IsGeometry geo → IsProper tree → IsAdmitted geo tree → IsCrowded geo tree need room → ⊥ }
+    ensures full { (geo : Raw) (tree : FilesTree) → IsTreeAdmitted geo tree → tree_bytes tree ≤ most_leaf_bytes geo }
+    ensures crowded { (geo : Raw) (tree : FilesTree) (need room : ℕ) → IsGeometry geo → IsProper tree → IsTreeAdmitted geo tree → IsCrowded geo tree need room → ⊥ }
 {
     leaves_of_a_tree_are_few();
     an_index_takes_few_lebs();

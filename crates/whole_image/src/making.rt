@@ -8,10 +8,10 @@ ghost use Rattle.ubi_volume.specs.MemVolume.{IsBlank, state_of};
 ghost use Rattle.ubi_volume.specs.Volume.{SameShape, filled};
 ghost use Rattle.fs_model.specs.Cover.{tree_bytes};
 ghost use Rattle.fs_model.specs.Proper.{IsProper};
-ghost use Rattle.image_maker.specs.Image.{shape_of};
+ghost use Rattle.image_maker.specs.Image.{shape_for};
 ghost use Rattle.image_maker.specs.Leaves.{live_leaves};
 ghost use Rattle.image_maker.specs.Packed.{packed_leaves};
-ghost use Rattle.whole_image.specs.Made.{CanBeLaid, IsMadeImage, IsNotPlain, IsOutOfLebs, IsPlainTree, IsRefused, packed_lebs};
+ghost use Rattle.whole_image.specs.Made.{CanBeLaid, IsMadeImage, IsNotPlain, IsOutOfLebs, IsPlainTree, IsImageRefused, packed_lebs};
 
 use crate::filling::fill_main;
 use crate::make_fault::MakeFault;
@@ -38,12 +38,12 @@ pub fn make_image(
     tree: &Tree,
     uuid: &[u8; 16],
 ) -> Result<(), MakeFault>
-    requires volume { IsBlank (shape_of (raw_of geometry.now)) (state_of volume.old) }
+    requires volume { IsBlank (shape_for (raw_of geometry.now)) (state_of volume.old) }
     requires small { geometry.now.big ≡ false }
     requires proper { IsProper tree.now }
     ensures made { OnOk result (IsMadeImage (state_of volume.new).holds (raw_of geometry.now) uuid.now tree.now) }
     ensures laid { OnOk result (CanBeLaid (raw_of geometry.now) tree.now) }
-    ensures refused { IfErr result (IsRefused (raw_of geometry.now) tree.now) }
+    ensures refused { IfErr result (IsImageRefused (raw_of geometry.now) tree.now) }
     ensures shape { SameShape (state_of volume.old) (state_of volume.new) }
 {
     leaves_of_a_tree_are_few();
@@ -61,7 +61,7 @@ pub fn make_packed(
     tree: &Tree,
     uuid: &[u8; 16],
 ) -> Result<(), MakeFault>
-    requires volume { IsBlank (shape_of (raw_of geometry.now)) (state_of volume.old) }
+    requires volume { IsBlank (shape_for (raw_of geometry.now)) (state_of volume.old) }
     requires small { geometry.now.big ≡ false }
     requires proper { IsProper tree.now }
     requires lebs { packed_lebs (raw_of geometry.now) tree.now ≡ main_lebs (raw_of geometry.now) }
@@ -90,7 +90,7 @@ fn lay_image(
     tree: &Tree,
     uuid: &[u8; 16],
 ) -> Result<(), MakeFault>
-    requires volume { IsBlank (shape_of (raw_of geometry.now)) (state_of volume.old) }
+    requires volume { IsBlank (shape_for (raw_of geometry.now)) (state_of volume.old) }
     requires small { geometry.now.big ≡ false }
     requires proper { IsProper tree.now }
     requires plain { IsPlainTree tree.now }

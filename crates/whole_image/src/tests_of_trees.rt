@@ -7,7 +7,7 @@ ghost use Rattle.ubifs_base.specs.Geometry.{leb_reserve};
 ghost use Rattle.ubifs_base.specs.RawOf.{raw_of};
 ghost use Rattle.fs_model.specs.Orphan.{nameless};
 ghost use Rattle.laid_tree.specs.Standing.{is_plain};
-ghost use Rattle.whole_image.specs.Made.{CanBeLaid, IsNotPlain, IsPlainTree, IsRefused, most_leaf_bytes};
+ghost use Rattle.whole_image.specs.Made.{CanBeLaid, IsNotPlain, IsPlainTree, IsImageRefused, most_leaf_bytes};
 
 use crate::make_fault::MakeFault;
 use plain_backing::Tree;
@@ -16,7 +16,7 @@ use ubifs_base::Geometry;
 // Tests the tree and the room of its leaves.
 pub(crate) fn test_tree(geometry: &Geometry, tree: &Tree) -> Result<(), MakeFault>
     ensures ok { OnOk result (CanBeLaid (raw_of geometry.now) tree.now) }
-    ensures err { IfErr result (IsRefused (raw_of geometry.now) tree.now) }
+    ensures err { IfErr result (IsImageRefused (raw_of geometry.now) tree.now) }
 {
     test_inodes(tree)?;
     let need = tree.bytes();

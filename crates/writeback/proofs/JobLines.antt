@@ -8,8 +8,8 @@ use mathlib.Core.List.{IsPrefix}
 use Rattle.atomic_table.specs.Seated.{TableId}
 use Rattle.fs_model.specs.declared.trace.TraceLine.{TraceLine}
 use Rattle.trace_word.specs.Knowledge.{lines_of}
-use Rattle.traced_files.specs.Calls.{StandsIn}
-use Rattle.traced_files.specs.States.{PassState}
+use Rattle.traced_files.specs.Calls.{StandsInTrace}
+use Rattle.traced_files.specs.States.{TracedPassState}
 use Rattle.writeback.specs.declared.job.Job.{Job}
 use Rattle.writeback.specs.Runs.{HasLines, HasRun, HaveRun, MayRun, lines_by}
 
@@ -22,7 +22,7 @@ same_lines caller seen trace begins same =
     let none : filter p begins.0 ≡ [] = nil_from_length (filter p begins.0) (length-filter p begins.0 ∙ omega arith) in
     ap (lines_by caller) (sym begins.1) ∙ (filter-append p seen begins.0 ∙ (ap (λ (l : List TraceLine). lines_by caller seen ++ l) none ∙ append-nil (lines_by caller seen)))
 
-one_closed : (trace : List TraceLine) (job : Job) (pass : PassState) → HasRun job.pass job.now job.ops.items pass → StandsIn trace pass → HasLines trace job
+one_closed : (trace : List TraceLine) (job : Job) (pass : TracedPassState) → HasRun job.pass job.now job.ops.items pass → StandsInTrace trace pass → HasLines trace job
 one_closed trace job pass run stands =
     let same = same_lines pass.caller pass.seen trace stands.0 (stands.1 ∙ sym run.counted) in (
       run.calls,
@@ -31,16 +31,16 @@ one_closed trace job pass run stands =
     )
 
 -- a trace in which the passes of jobs stand has the lines of the jobs
-pub all_closed : (trace : List TraceLine) (jobs : List Job) (passes : List PassState) → HaveRun jobs passes → All (λ p. StandsIn trace p) passes → All (λ j. HasLines trace j) jobs
+pub all_closed : (trace : List TraceLine) (jobs : List Job) (passes : List TracedPassState) → HaveRun jobs passes → All (λ p. StandsInTrace trace p) passes → All (λ j. HasLines trace j) jobs
 all_closed trace [] passes run stand = All-nil (λ (j : Job). HasLines trace j)
 all_closed trace (j ∷ js) passes run stand =
-    let all : All (λ p. StandsIn trace p) (run.0 ∷ run.1) = subst (All (λ (p : PassState). StandsIn trace p)) run.2 stand in
-    All-cons (λ (j : Job). HasLines trace j) j js (one_closed trace j run.0 run.3 (All-head (λ (p : PassState). StandsIn trace p) run.0 run.1 all)) (all_closed trace js run.1 run.4 (All-tail (λ (p : PassState). StandsIn trace p) run.0 run.1 all))
+    let all : All (λ p. StandsInTrace trace p) (run.0 ∷ run.1) = subst (All (λ (p : TracedPassState). StandsInTrace trace p)) run.2 stand in
+    All-cons (λ (j : Job). HasLines trace j) j js (one_closed trace j run.0 run.3 (All-head (λ (p : TracedPassState). StandsInTrace trace p) run.0 run.1 all)) (all_closed trace js run.1 run.4 (All-tail (λ (p : TracedPassState). StandsInTrace trace p) run.0 run.1 all))
 
 -- the passes are of the word that the jobs' were of
-pub all_of_word : (word pool : TableId) (jobs : List Job) (passes : List PassState) → All (λ j. MayRun word pool j) jobs → HaveRun jobs passes → All (λ p. p.word ≡ word) passes
-all_of_word word pool [] passes may none = subst (All (λ (p : PassState). p.word ≡ word)) (sym none) (All-nil (λ (p : PassState). p.word ≡ word))
+pub all_of_word : (word pool : TableId) (jobs : List Job) (passes : List TracedPassState) → All (λ j. MayRun word pool j) jobs → HaveRun jobs passes → All (λ p. p.word ≡ word) passes
+all_of_word word pool [] passes may none = subst (All (λ (p : TracedPassState). p.word ≡ word)) (sym none) (All-nil (λ (p : TracedPassState). p.word ≡ word))
 all_of_word word pool (j ∷ js) passes may run =
     let first = (All-head (λ (j : Job). MayRun word pool j) j js may).0 in
     let rest = all_of_word word pool js run.1 (All-tail (λ (j : Job). MayRun word pool j) j js may) run.4 in
-    subst (All (λ (p : PassState). p.word ≡ word)) (sym run.2) (All-cons (λ (p : PassState). p.word ≡ word) run.0 run.1 (run.3.word ∙ first) rest)
+    subst (All (λ (p : TracedPassState). p.word ≡ word)) (sym run.2) (All-cons (λ (p : TracedPassState). p.word ≡ word) run.0 run.1 (run.3.word ∙ first) rest)

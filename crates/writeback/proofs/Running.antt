@@ -12,7 +12,7 @@ use Rattle.fs_model.specs.declared.trace.TraceLine.{TraceLine}
 use Rattle.trace_word.specs.Knowledge.{lines_of}
 use Rattle.traced_files.specs.Calls.{IsEntered, IsUndone}
 use Rattle.traced_files.specs.Start.{Start}
-use Rattle.traced_files.specs.States.{PassState}
+use Rattle.traced_files.specs.States.{TracedPassState}
 use Rattle.writeback.specs.Runs.{AreCalls, HasRun, lines_by}
 
 module _ {A : Type 0} (p : A → Bool) where
@@ -69,7 +69,7 @@ abbrev of_caller : ℕ → TraceLine → Bool
 of_caller caller line = line.caller == caller
 
 -- the caller's lines once its call was made
-pub entered_lines : (start : Start) (old new : PassState) (now : ℕ) (op : Op) (reply : Reply) → lines_of old.caller old.seen ≡ old.made → IsEntered start old now op new reply
+pub entered_lines : (start : Start) (old new : TracedPassState) (now : ℕ) (op : Op) (reply : Reply) → lines_of old.caller old.seen ≡ old.made → IsEntered start old now op new reply
     → lines_by old.caller new.seen ≡ lines_by old.caller old.seen ++ (record { caller = old.caller; number = old.made + 1; now = now; op = op; reply = reply }) ∷ []
 entered_lines start old new now op reply counted e =
     let line : TraceLine = record { caller = old.caller; number = old.made + 1; now = now; op = op; reply = reply } in
@@ -110,7 +110,7 @@ calls_pass caller now made (x ∷ xs) lines op (inl h) = inl (calls_pass caller 
 calls_pass caller now made (x ∷ xs) lines op (inr h) = inr (h.0, h.1, h.2, calls_pass caller now (made + 1) xs h.1 op h.3)
 
 -- nothing was made yet
-pub run_none : (old : PassState) (now : ℕ) → lines_of old.caller old.seen ≡ old.made → HasRun old now [] old
+pub run_none : (old : TracedPassState) (now : ℕ) → lines_of old.caller old.seen ≡ old.made → HasRun old now [] old
 run_none old now counted = record {
   word = refl;
   pool = refl;
@@ -123,7 +123,7 @@ run_none old now counted = record {
   counted = counted;
 }
 
-run_pass : (old : PassState) (now : ℕ) (ops : List Op) (new : PassState) (op : Op) → HasRun old now ops new → HasRun old now (ops ++ op ∷ []) new
+run_pass : (old : TracedPassState) (now : ℕ) (ops : List Op) (new : TracedPassState) (op : Op) → HasRun old now ops new → HasRun old now (ops ++ op ∷ []) new
 run_pass old now ops new op h = record {
   word = h.word;
   pool = h.pool;
@@ -136,7 +136,7 @@ run_pass old now ops new op h = record {
   counted = h.counted;
 }
 
-run_enter : (start : Start) (old mid new : PassState) (now : ℕ) (ops : List Op) (op : Op) (reply : Reply) → HasRun old now ops mid → IsEntered start mid now op new reply → HasRun old now (ops ++ op ∷ []) new
+run_enter : (start : Start) (old mid new : TracedPassState) (now : ℕ) (ops : List Op) (op : Op) (reply : Reply) → HasRun old now ops mid → IsEntered start mid now op new reply → HasRun old now (ops ++ op ∷ []) new
 run_enter start old mid new now ops op reply h e =
     let line : ℕ → ℕ → TraceLine = λ c n. record { caller = c; number = n + 1; now = now; op = op; reply = reply } in
     let added : lines_by old.caller new.seen ≡ lines_by old.caller mid.seen ++ line old.caller (old.made + length h.calls) ∷ [] =
@@ -154,6 +154,6 @@ run_enter start old mid new now ops op reply h e =
     }
 
 -- one call more
-pub run_push : (start : Start) (old mid new : PassState) (now : ℕ) (ops : List Op) (op : Op) (reply : Reply) → HasRun old now ops mid → IsUndone mid new reply ⊎ IsEntered start mid now op new reply → HasRun old now (ops ++ op ∷ []) new
+pub run_push : (start : Start) (old mid new : TracedPassState) (now : ℕ) (ops : List Op) (op : Op) (reply : Reply) → HasRun old now ops mid → IsUndone mid new reply ⊎ IsEntered start mid now op new reply → HasRun old now (ops ++ op ∷ []) new
 run_push start old mid new now ops op reply h (inl undone) = subst (HasRun old now (ops ++ op ∷ [])) (sym undone.1) (run_pass old now ops mid op h)
 run_push start old mid new now ops op reply h (inr e) = run_enter start old mid new now ops op reply h e

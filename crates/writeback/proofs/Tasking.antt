@@ -3,7 +3,7 @@ use Rattle.std.proofs.Common.{◌≡◌, ℕ, zero, suc, ◌+◌, ◌≤◌, Lis
 use Rattle.std.proofs.lemmas.List.{append-nil, length-map}
 use Rattle.std.proofs.lemmas.List.Elements.{All-append, All-cons, All-nil, All-head, All-tail, All-map}
 use Rattle.atomic_table.specs.Seated.{TableId}
-use Rattle.traced_files.specs.States.{PassState}
+use Rattle.traced_files.specs.States.{TracedPassState}
 use Rattle.writeback.specs.declared.job.Job.{Job}
 use Rattle.writeback.specs.declared.together.Task.{Task}
 use Rattle.writeback.specs.Runs.{HaveRun, MayRun}
@@ -18,7 +18,7 @@ length-tasks_for jobs n = omega (arith, length-append (map task_of jobs) (worker
 
 pub passes_in-append : (xs ys : List Task) → passes_in (xs ++ ys) ≡ passes_in xs ++ passes_in ys
 passes_in-append [] ys = refl
-passes_in-append (x ∷ xs) ys = ap (λ (ps : List PassState). option_to_list x.pass ++ ps) (passes_in-append xs ys) ∙ sym (append_assoc (option_to_list x.pass) (passes_in xs) (passes_in ys))
+passes_in-append (x ∷ xs) ys = ap (λ (ps : List TracedPassState). option_to_list x.pass ++ ps) (passes_in-append xs ys) ∙ sym (append_assoc (option_to_list x.pass) (passes_in xs) (passes_in ys))
 
 abbrev HasNoJob : Task → Type 0
 HasNoJob t = (t.job ≡ None) × (t.pass ≡ None)
@@ -45,9 +45,9 @@ none_idle [] (n ∷ ns) all len done = absurd (omega arith)
 none_idle (o ∷ os) [] all len done = absurd (omega arith)
 none_idle (o ∷ os) (n ∷ ns) all len done =
     let is : HasNoJob o = All-head (λ (t : Task). HasNoJob t) o os all in
-    let none : n.pass ≡ None = subst (λ (x : Option Job × Option PassState). IsOver x.0 x.1 n.pass) (λ k. (is.0 k, is.1 k)) (done zero o (omega arith)) in
+    let none : n.pass ≡ None = subst (λ (x : Option Job × Option TracedPassState). IsOver x.0 x.1 n.pass) (λ k. (is.0 k, is.1 k)) (done zero o (omega arith)) in
     let rest = none_idle os ns (All-tail (λ (t : Task). HasNoJob t) o os all) (omega arith) (done_behind o n os ns done) in
-    ap (λ (p : Option PassState). option_to_list p ++ passes_in ns) none ∙ rest
+    ap (λ (p : Option TracedPassState). option_to_list p ++ passes_in ns) none ∙ rest
 
 -- all jobs have run, and their passes are there in order
 pub all_run : (jobs : List Job) (n : ℕ) (news : List Task) → length news ≡ length (tasks_for jobs n) → AreTasksDone (tasks_for jobs n) news → HaveRun jobs (passes_in news)
@@ -57,13 +57,13 @@ all_run (j ∷ js) n (x ∷ xs) len done =
     let first = done zero x (omega arith) in (
       first.0,
       passes_in xs,
-      ap (λ (p : Option PassState). option_to_list p ++ passes_in xs) first.1,
+      ap (λ (p : Option TracedPassState). option_to_list p ++ passes_in xs) first.1,
       first.2,
       all_run js n xs (omega arith) (done_behind (task_of j) x (tasks_for js n) xs done),
     )
 
 -- as many passes as jobs
-pub as_many : (jobs : List Job) (passes : List PassState) → HaveRun jobs passes → length passes ≡ length jobs
+pub as_many : (jobs : List Job) (passes : List TracedPassState) → HaveRun jobs passes → length passes ≡ length jobs
 as_many [] passes none = ap length none
 as_many (j ∷ js) passes h = ap length h.2 ∙ ap suc (as_many js h.1 h.4)
 
@@ -78,4 +78,4 @@ room_left came left rest whole t is next =
     omega arith
 
 pub one_pass : (came : List Task) (t : Task) → passes_in came ++ option_to_list t.pass ≡ passes_in (came ++ t ∷ [])
-one_pass came t = sym (passes_in-append came (t ∷ []) ∙ ap (λ (ps : List PassState). passes_in came ++ ps) (append-nil (option_to_list t.pass)))
+one_pass came t = sym (passes_in-append came (t ∷ []) ∙ ap (λ (ps : List TracedPassState). passes_in came ++ ps) (append-nil (option_to_list t.pass)))

@@ -7,7 +7,7 @@ use Rattle.fs_model.specs.declared.reply.Reply.{Reply}
 use Rattle.fs_model.specs.declared.trace.TraceLine.{TraceLine}
 use Rattle.fs_laws.specs.Sound.{IsCall}
 use Rattle.trace_word.specs.Knowledge.{lines_of}
-use Rattle.traced_files.specs.States.{PassState}
+use Rattle.traced_files.specs.States.{TracedPassState}
 use Rattle.writeback.specs.declared.job.Job.{Job}
 
 -- the lines of this caller, in order
@@ -24,7 +24,7 @@ AreCalls caller now made (op ∷ ops) lines =
     × AreCalls caller now (made + 1) ops rest)
 
 -- A caller has made these operations with a pass. It has seen a trace that begins with what it had seen. Its own lines there are those that it had, and then those of the operations.
-pub record HasRun (old : PassState) (now : ℕ) (ops : List Op) (new : PassState) : Type 0 where
+pub record HasRun (old : TracedPassState) (now : ℕ) (ops : List Op) (new : TracedPassState) : Type 0 where
   pub word : new.word ≡ old.word
   pub pool : new.pool ≡ old.pool
   pub caller : new.caller ≡ old.caller
@@ -40,9 +40,9 @@ abbrev pub MayRun : TableId → TableId → Job → Type 0
 MayRun word pool job = (job.pass.word ≡ word) × (job.pass.pool ≡ pool) × All IsCall job.ops.items
 
 -- the jobs have run, each with its pass, in order
-abbrev pub HaveRun : List Job → List PassState → Type 0
+abbrev pub HaveRun : List Job → List TracedPassState → Type 0
 HaveRun [] passes = passes ≡ []
-HaveRun (j ∷ js) passes = (p : PassState) × (ps : List PassState) × (passes ≡ p ∷ ps) × HasRun j.pass j.now j.ops.items p × HaveRun js ps
+HaveRun (j ∷ js) passes = (p : TracedPassState) × (ps : List TracedPassState) × (passes ≡ p ∷ ps) × HasRun j.pass j.now j.ops.items p × HaveRun js ps
 
 -- of the job's caller a trace has the lines that its pass had seen, and then those of the job's operations, and no others
 abbrev pub HasLines : List TraceLine → Job → Type 0

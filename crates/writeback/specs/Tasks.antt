@@ -1,7 +1,7 @@
 -- The tasks of a phase.
 use Rattle.std.specs.Prelude.{◌≡◌, ℕ, zero, suc, ◌<◌, List, [], ◌∷◌, ◌++◌, length, map, Option, Some, None, slice_index_or, option_to_list}
 use Rattle.atomic_table.specs.Seated.{TableId}
-use Rattle.traced_files.specs.States.{PassState}
+use Rattle.traced_files.specs.States.{TracedPassState}
 use Rattle.writeback.specs.declared.job.Job.{Job}
 use Rattle.writeback.specs.declared.together.Task.{Task}
 use Rattle.writeback.specs.Runs.{HasRun, MayRun}
@@ -30,9 +30,9 @@ abbrev pub IsTaskReady : TableId → TableId → Task → Type 0
 IsTaskReady word pool t = MayBegin word pool t.job
 
 -- its job, if it had one, has run
-abbrev pub IsOver : Option Job → Option PassState → Option PassState → Type 0
+abbrev pub IsOver : Option Job → Option TracedPassState → Option TracedPassState → Type 0
 IsOver None old new = new ≡ old
-IsOver (Some j) old new = (p : PassState) × (new ≡ Some p) × HasRun j.pass j.now j.ops.items p
+IsOver (Some j) old new = (p : TracedPassState) × (new ≡ Some p) × HasRun j.pass j.now j.ops.items p
 
 abbrev pub IsTaskDone : Task → Task → Type 0
 IsTaskDone old new = IsOver old.job old.pass new.pass
@@ -42,6 +42,6 @@ abbrev pub AreTasksDone : List Task → List Task → Type 0
 AreTasksDone olds news = (k : ℕ) (d : Task) → k < length olds → IsTaskDone (slice_index_or olds k d) (slice_index_or news k d)
 
 -- the passes that they have
-abbrev pub passes_in : List Task → List PassState
+abbrev pub passes_in : List Task → List TracedPassState
 passes_in [] = []
 passes_in (t ∷ ts) = option_to_list t.pass ++ passes_in ts

@@ -1,7 +1,7 @@
 // A phase, and the close behind it.
 
 ghost use Rattle.std.specs.Prelude.{◌≡◌, ◌<◌, All, IfOk, IfErr, length};
-ghost use Rattle.traced_files.specs.Calls.{AreLegal, IsClosedHistory};
+ghost use Rattle.traced_files.specs.Calls.{AreLinesLegal, IsClosedHistory};
 ghost use Rattle.vfs_ops.specs.Fs.{files_state};
 ghost use Rattle.writeback.specs.Runs.{HasLines, MayRun};
 
@@ -44,7 +44,7 @@ pub fn close_after_phase<
     requires some { 0 < length jobs.items }
     requires jobs { All (λ j. MayRun J.word J.pool j) jobs.items }
     ensures history { IfOk result (λ closed. IsClosedHistory J.start closed.trace.items (files_state closed.fs) (B.outlook closed.fs.backing)) }
-    ensures legal { IfOk result (λ closed. AreLegal J.start closed.trace.items (files_state closed.fs) (B.outlook closed.fs.backing)) }
+    ensures legal { IfOk result (λ closed. AreLinesLegal J.start closed.trace.items (files_state closed.fs) (B.outlook closed.fs.backing)) }
     ensures lines { IfOk result (λ closed. All (λ j. HasLines closed.trace.items j) jobs.items) }
     ensures credits { IfOk result (λ closed. (files_state closed.fs).backing.space.credits ≡ length (files_state closed.fs).kept.pages.dirty) }
     ensures back { IfErr result (λ fault. fault.1.jobs.items ≡ jobs.items) }

@@ -1,5 +1,5 @@
 use Rattle.std.proofs.Common.{◌≡◌, ◌++◌, ◌<◌, List, length, take, drop, ap, sym, ◌∙◌, subst, rules}
-use Rattle.bud_log.specs.Buds.{named}
+use Rattle.bud_log.specs.Buds.{named_also}
 use Rattle.bud_log.specs.NamedLaws.{named_there}
 use Rattle.bud_log.specs.declared.head_at.HeadAt.{HeadAt}
 use Rattle.bud_check.proofs.named_buds.name_bud.Goals as goal
@@ -9,8 +9,8 @@ returns-then-index-node c =
     let items = c.loop-index.buds.items in
     let old = c.args.buds.now.items in
     let same : items ≡ old = ap (λ b. b.items) c.loop-index.invariant.0 in
-    let P : List HeadAt → Type 0 = λ xs. named xs c.args.node ≡ take c.loop-index.index xs ++ named (drop c.loop-index.index xs) c.args.node in
+    let P : List HeadAt → Type 0 = λ xs. named_also xs c.args.node ≡ take c.loop-index.index xs ++ named_also (drop c.loop-index.index xs) c.args.node in
     let inside : c.loop-index.index < length items = search rules in
     named_there items c.loop-index.index c.min.result c.index-then-index-node.result.now c.index_mut.result.now c.index.result.now c.args.node (subst P (sym same) c.loop-index.invariant.2) inside
     c.index-then-index-node.ensures c.index_mut.ensures.value c.index.ensures c.if-index-node.true c.min.ensures
-    ∙ ap (λ (xs : List HeadAt). named xs c.args.node) same
+    ∙ ap (λ (xs : List HeadAt). named_also xs c.args.node) same

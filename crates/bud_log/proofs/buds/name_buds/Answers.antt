@@ -1,10 +1,10 @@
 use Rattle.std.proofs.Common.{◌++◌, ◌∷◌, [], arith, rules}
 use Rattle.leb_scan.specs.Gathered.{gathered_next}
-use Rattle.bud_log.specs.References.{next_stands, room_of, reference_there, named_more, named_other, named_all}
+use Rattle.bud_log.specs.References.{next_stands, padded_room_of, reference_there, named_more, named_other, named_all}
 use Rattle.bud_log.proofs.buds.name_buds.Goals as goal
 
 pub reference_at-requires-clause-room : goal.reference_at-requires-clause-room
-reference_at-requires-clause-room c = room_of c.args.leb.now c.in-Some.found (next_stands c.args.leb.now c.loop-found.scanner.place c.next.new.self.place c.in-Some.found c.in-Some.ensures.some)
+reference_at-requires-clause-room c = padded_room_of c.args.leb.now c.in-Some.found (next_stands c.args.leb.now c.loop-found.scanner.place c.next.new.self.place c.in-Some.found c.in-Some.ensures.some)
 
 pub reference_at-requires-clause-there : goal.reference_at-requires-clause-there
 reference_at-requires-clause-there c =

@@ -1,7 +1,7 @@
 use Rattle.std.proofs.Common.{ℕ, inr, refl, ap, sym, subst}
-use Rattle.bud_log.specs.Buds.{named, buds_of}
+use Rattle.bud_log.specs.Buds.{named_also, buds_of}
 use Rattle.bud_log.specs.LogAt.{LogAt, references_to}
-use Rattle.bud_log.specs.Writing.{AreOthersOlder, IsReady}
+use Rattle.bud_log.specs.Writing.{AreOthersOlder, IsLogReady}
 use Rattle.bud_log.proofs.client.start_and_open.Goals as goal
 
 pub returns-clause-ready : goal.returns-clause-ready
@@ -11,7 +11,7 @@ returns-clause-ready g c =
     let after = c.open_bud.new.self in
     let buds = buds_of (references_to c.args.heads.now) in
     let done = c.in-Ok-open_bud.ensures.done section buds (inr refl) (c.in-Ok.ensures.section c.requires.older) in
-    let R : ℕ → Type 0 = λ n. IsReady e after.geo n after.lnum after.offs c.open_bud.new.sqnum (named buds (record { lnum = c.args.lnum; offs = 0; head = c.args.head })) in
+    let R : ℕ → Type 0 = λ n. IsLogReady e after.geo n after.lnum after.offs c.open_bud.new.sqnum (named_also buds (record { lnum = c.args.lnum; offs = 0; head = c.args.head })) in
     subst R (sym (ap (λ (z : LogAt). z.section) c.in-Ok-open_bud.ensures.opened.moved)) done
 
 pub returns-clause-stands : goal.returns-clause-stands

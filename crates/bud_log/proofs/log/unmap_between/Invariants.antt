@@ -3,7 +3,7 @@ use Rattle.std.specs.Prelude.{◌≡◌, ◌⊎◌}
 use Rattle.ubifs_base.specs.RawOf.{raw_of}
 use Rattle.ubi_volume.specs.Volume.{SameShape}
 use Rattle.bud_log.proofs.Ended.{IsUnmappedTo}
-use Rattle.bud_log.specs.RingRuns.{left_of}
+use Rattle.bud_log.specs.RingRuns.{lebs_left_of}
 use Rattle.bud_log.proofs.log.unmap_between.Given as goal
 
 -- the LEBs up to the next one are unmapped, and nothing failed
@@ -14,4 +14,4 @@ invariant-loop-lnum g l =
     × ((g.V.Volume.state l.fn.volume).sure → (g.V.Volume.state l.volume).spent ⊎ ((g.V.Volume.state l.volume).sure × ((g.V.Volume.state l.volume).faults ≡ (g.V.Volume.state l.fn.volume).faults)))
 
 abbrev pub decreases-loop-lnum : goal.decreases-loop-lnum
-decreases-loop-lnum g l = left_of (raw_of l.geometry) l.to l.lnum
+decreases-loop-lnum g l = lebs_left_of (raw_of l.geometry) l.to l.lnum

@@ -2,7 +2,7 @@ use Rattle.std.proofs.Common.{◌≡◌, length}
 use Rattle.ubifs_base.specs.RawOf.{raw_of}
 use Rattle.bud_log.specs.KeepsOnLaws.{KeepsOn}
 use Rattle.bud_log.specs.Log.{IsLogLeb}
-use Rattle.bud_log.specs.RingRuns.{left_of, IsReadSoFar}
+use Rattle.bud_log.specs.RingRuns.{lebs_left_of, IsReadSoFar}
 use Rattle.bud_log.proofs.reading.read_on.Given as goal
 
 -- what was read so far, and that all is kept
@@ -12,4 +12,4 @@ invariant-loop-lnum g l =
     × KeepsOn (g.V.Volume.state l.fn.volume) (g.V.Volume.state l.volume) × (length l.leb ≡ length l.fn.leb)
 
 abbrev pub decreases-loop-lnum : goal.decreases-loop-lnum
-decreases-loop-lnum g l = left_of (raw_of l.geometry) l.from l.lnum
+decreases-loop-lnum g l = lebs_left_of (raw_of l.geometry) l.from l.lnum

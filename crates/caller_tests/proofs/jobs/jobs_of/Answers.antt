@@ -1,7 +1,7 @@
 use Rattle.std.proofs.Common.{◌≡◌, List, [], ◌∷◌, ◌++◌, map, All, ap, sym, ◌∙◌, subst, arith, rules}
 use Rattle.std.proofs.lemmas.List.{map-append}
 use Rattle.std.proofs.lemmas.List.Elements.{All-nil, All-push}
-use Rattle.traced_files.specs.States.{PassState}
+use Rattle.traced_files.specs.States.{TracedPassState}
 use Rattle.caller_tests.proofs.FreshJobs.{HasCalls, all_came, one_came, pass_of}
 use Rattle.caller_tests.proofs.jobs.jobs_of.Goals as goal
 
@@ -13,7 +13,7 @@ loop-pass-preserved c =
     let i = c.loop-pass.invariant in
     let job = c.in_ok-job_of.field-0 in (
       one_came c.loop-pass.yielded c.loop-pass.pass-iterator.rest.items c.next.new.self.rest.items c.args.passes.items c.in-Some.pass i.0 c.in-Some.ensures.steps.0,
-      ap (map pass_of) c.in_ok-push.ensures.items ∙ (map-append pass_of c.loop-pass.jobs.items (job ∷ []) ∙ ap (λ (x : List PassState × PassState). x.0 ++ x.1 ∷ []) (λ k. (i.1 k, c.in_ok-job_of.ensures.pass k))),
+      ap (map pass_of) c.in_ok-push.ensures.items ∙ (map-append pass_of c.loop-pass.jobs.items (job ∷ []) ∙ ap (λ (x : List TracedPassState × TracedPassState). x.0 ++ x.1 ∷ []) (λ k. (i.1 k, c.in_ok-job_of.ensures.pass k))),
       subst (All HasCalls) (sym c.in_ok-push.ensures.items) (All-push HasCalls c.loop-pass.jobs.items job i.2 c.in_ok-job_of.ensures.ops),
     )
 

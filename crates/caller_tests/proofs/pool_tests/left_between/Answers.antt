@@ -1,5 +1,5 @@
 use Rattle.std.proofs.Common.{All, ap, refl, sym, ◌∙◌, subst}
-use Rattle.traced_files.specs.States.{PassState}
+use Rattle.traced_files.specs.States.{TracedPassState}
 use Rattle.caller_tests.proofs.FreshJobs.{IsOf, all_fresh, holds_last}
 use Rattle.caller_tests.proofs.pool_tests.left_between.Goals as goal
 
@@ -14,4 +14,4 @@ left_in_pool-requires-clause-job g c =
     let P = IsOf w.word w.pool in
     let all = subst (All P) (sym c.in_ok-word.ensures.passes) (all_fresh w.word w.pool c.args.callers) in
     let last = holds_last P c.pop.new.self.items c.in-Some.pass (subst (All P) c.in-Some.ensures.items all) in
-    (ap (λ (p : PassState). p.word) c.in_ok-job.ensures.pass ∙ last.0, ap (λ (p : PassState). p.pool) c.in_ok-job.ensures.pass ∙ last.1, c.in_ok-job.ensures.ops)
+    (ap (λ (p : TracedPassState). p.word) c.in_ok-job.ensures.pass ∙ last.0, ap (λ (p : TracedPassState). p.pool) c.in_ok-job.ensures.pass ∙ last.1, c.in_ok-job.ensures.ops)

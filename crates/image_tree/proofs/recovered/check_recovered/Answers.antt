@@ -11,7 +11,7 @@ use Rattle.sound_image.specs.Wrong.{IsFirstWrong}
 use Rattle.sound_image.specs.declared.rule.Rule.TheVariants as rules
 use Rattle.image_check.specs.Told.{IsBreachOf, TellsBreach}
 use Rattle.image_check.specs.declared.fault.CheckFault.{CheckFault}
-use Rattle.image_tree.specs.Reads.{AreLeavesMet, IsReadOfSome, IsReadSoFar, ReadBefore, leaves_told}
+use Rattle.image_tree.specs.Reads.{AreLeavesMet, IsReadOfSome, IsImageReadSoFar, ReadBefore, leaves_told}
 use Rattle.image_tree.specs.declared.tree_read.TreeRead.{TreeRead}
 use Rattle.image_tree.proofs.StandingNodes.{StandingLaws}
 use Rattle.image_tree.proofs.WholeImage.{broken_of, met_of, whole_broken, whole_met}
@@ -29,7 +29,7 @@ returns-in-Ok-clause-met g c =
     let read = c.in-Ok.found.read in
     let before : ReadBefore = record { geo = geo; props = c.args.props.now; leaves = c.args.leaves.now; references = c.args.references.now; journal = c.args.journal.now } in
     let Met : (ℕ → List ℕ) → Type 0 = λ holds. AreLeavesMet holds geo c.args.props.now read.recovered.missing.items (leaves_told read.recovered) in
-    let Answer : TreeRead → Type 0 = λ made. (image : Image) → IsReadSoFar old.holds before image → IsReadOfSome old.holds before image made in
+    let Answer : TreeRead → Type 0 = λ made. (image : Image) → IsImageReadSoFar old.holds before image → IsReadOfSome old.holds before image made in
     met_of c.check_read.result read (Met now.holds) Answer c.check_read.ensures.same c.check_read.ensures.met
     (λ met image s. whole_met laws old.holds before image read s c.in-Ok.ensures.read (subst Met (fun_ext c.in-Ok.ensures.keeps.holds) met))
 
@@ -42,7 +42,7 @@ returns-in-Ok-clause-broken g c =
     let read = c.in-Ok.found.read in
     let before : ReadBefore = record { geo = geo; props = c.args.props.now; leaves = c.args.leaves.now; references = c.args.references.now; journal = c.args.journal.now } in
     let Told : (ℕ → List ℕ) → CheckFault → Type 0 = λ holds fault. TellsBreach (IsBreachOf rules.Leaves (IsFirstWrong (IsWrongOfLeaves holds geo c.args.props.now read.recovered.missing.items (leaves_told read.recovered)))) fault in
-    let Answer : CheckFault → Type 0 = λ fault. (image : Image) → IsReadSoFar old.holds before image → TellsBreach (IsBreachOf rules.Leaves (IsBrokenLeaf old.holds image)) fault in
+    let Answer : CheckFault → Type 0 = λ fault. (image : Image) → IsImageReadSoFar old.holds before image → TellsBreach (IsBreachOf rules.Leaves (IsBrokenLeaf old.holds image)) fault in
     broken_of c.check_read.result (Told now.holds) Answer
     (λ fault told image s. whole_broken laws old.holds before image read s c.in-Ok.ensures.read fault (subst (λ (holds : ℕ → List ℕ). Told holds fault) (fun_ext c.in-Ok.ensures.keeps.holds) told))
     c.check_read.ensures.broken

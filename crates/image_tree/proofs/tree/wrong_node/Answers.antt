@@ -6,7 +6,7 @@ use Rattle.sound_image.specs.Wrong.{Wrong}
 use Rattle.image_check.specs.WrongValues.{IsFirstOf, sooner_of}
 use Rattle.image_check.specs.declared.wrong_value.WrongValue.{WrongValue}
 use Rattle.shown_leaves.specs.Copies.{ArePartsTold}
-use Rattle.image_tree.specs.Trees.{HasNodes}
+use Rattle.image_tree.specs.Trees.{HasPartNodes}
 use Rattle.image_tree.proofs.NodeParts.{nodes_first, nodes_right}
 use Rattle.image_tree.proofs.tree.wrong_node.Goals as goal
 
@@ -29,6 +29,6 @@ returns-clause-right g c parts h =
     let t = c.in_ok-twice.twice in
     let T : List JournalNode → Type 0 = λ js. ArePartsTold old.holds parts c.args.references.now c.args.committed.now js in
     let there = subst T (sym c.as_slice-2.ensures.value) h.parts_told in
-    subst (λ (o : Option WrongValue). IfNone o (HasNodes parts)) (sym (c.sooner-2.ensures ∙ ap (λ (o : Option WrongValue). sooner_of o t) c.sooner.ensures))
+    subst (λ (o : Option WrongValue). IfNone o (HasPartNodes parts)) (sym (c.sooner-2.ensures ∙ ap (λ (o : Option WrongValue). sooner_of o t) c.sooner.ensures))
     (nodes_right parts u c.in_ok-copies.copies t
     (c.first_unchanging-unchanging.ensures.first parts.nodes h.leaf_nodes (c.as_slice.ensures.value ∙ h.nodes_told)) (c.in_ok-copies.ensures.copies parts there) (c.in_ok-twice.ensures.first parts h.leaves_are))

@@ -4,7 +4,7 @@ use Rattle.ubi_volume.specs.Faults.{IsNotVolume}
 use Rattle.bud_log.specs.Writing.{IsOlder}
 use Rattle.ubi_volume.specs.VolumeLaws.{Keeps-then}
 use Rattle.bud_log.specs.KeepsOnLaws.{keeps_on_then}
-use Rattle.bud_log.specs.RingRuns.{fewer_left, left_of}
+use Rattle.bud_log.specs.RingRuns.{fewer_left, lebs_left_of}
 use Rattle.journal_check.specs.LogChecks.{IsAddedTo, IsReadUpTo}
 use Rattle.journal_check.specs.declared.read_lebs.ReadLebs.{ReadLebs}
 use Rattle.journal_check.proofs.LogTexts.{all_read, next_read}
@@ -50,5 +50,5 @@ returns-then-not-later-clause-keeps g c =
 pub loop-lnum-smaller : goal.loop-lnum-smaller
 loop-lnum-smaller g c =
     let geo = raw_of c.args.geometry.now in
-    let P : ℕ → Type 0 = λ n. left_of geo c.args.from n < left_of geo c.args.from c.loop-lnum.lnum in
+    let P : ℕ → Type 0 = λ n. lebs_left_of geo c.args.from n < lebs_left_of geo c.args.from c.loop-lnum.lnum in
     subst P (sym c.next_leb-lnum-in-loop-lnum.ensures.next) (fewer_left geo c.args.from c.loop-lnum.lnum c.requires.ring c.loop-lnum.invariant.1 c.loop-lnum-test.true)

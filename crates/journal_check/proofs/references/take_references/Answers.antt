@@ -2,7 +2,7 @@ use Rattle.std.proofs.Common.{◌≡◌, ℕ, ◌++◌, ◌∷◌, [], arith, ru
 use Rattle.leb_scan.specs.Gathered.{IsGathered}
 use Rattle.ubifs_base.specs.RawOf.{raw_of}
 use Rattle.leb_scan.specs.Gathered.{gathered_next, gathered_none}
-use Rattle.bud_log.specs.References.{next_stands, room_of, reference_there}
+use Rattle.bud_log.specs.References.{next_stands, padded_room_of, reference_there}
 use Rattle.journal_check.proofs.TakenReferences.{taken_all, taken_more, taken_none, taken_other}
 use Rattle.journal_check.proofs.references.take_references.Goals as goal
 
@@ -14,7 +14,7 @@ loop-found-init c =
     (([], subst P (sym start) (gathered_none c.args.leb.now 0), taken_none (raw_of c.args.geometry.now) c.args.leb.now c.args.lnum c.args.references.now.items), omega (arith, start))
 
 pub reference_at-requires-clause-room : goal.reference_at-requires-clause-room
-reference_at-requires-clause-room c = room_of c.args.leb.now c.in-Some.found (next_stands c.args.leb.now c.loop-found.scanner.place c.next.new.self.place c.in-Some.found c.in-Some.ensures.some)
+reference_at-requires-clause-room c = padded_room_of c.args.leb.now c.in-Some.found (next_stands c.args.leb.now c.loop-found.scanner.place c.next.new.self.place c.in-Some.found c.in-Some.ensures.some)
 
 pub reference_at-requires-clause-there : goal.reference_at-requires-clause-there
 reference_at-requires-clause-there c =

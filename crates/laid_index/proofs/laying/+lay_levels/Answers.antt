@@ -4,7 +4,7 @@ use Rattle.media_sys.specs.declared.branch.Branch.{Branch}
 use Rattle.index_media.specs.Stored.{IsIndexNodeAt}
 use Rattle.laid_index.specs.Answered.{IsLayingAnswered}
 use Rattle.laid_index.specs.Crowned.{IsCrowned}
-use Rattle.laid_index.specs.Opened.{GoesOn, Lays, taken_after}
+use Rattle.laid_index.specs.Opened.{GoesOnInLeb, Lays, taken_after}
 use Rattle.laid_index.specs.Packing.{len_over, lens_above, level_lens}
 use Rattle.laid_index.specs.Rows.{AreOver, HasFirstKey, StandOver}
 use Rattle.laid_index.proofs.Answering.{answered_err, answered_then, answered_wider, exit_answered, geometry_kept}
@@ -39,7 +39,7 @@ returns-then-siblings-geometry-clause-crowned g t c =
     let now = (g.V.Volume.state c.lay_node.new.volume).holds in
     let e = lens_root geo.fanout n c.requires.some le in
     if_ok_all c.lay_node.result (λ b. Lays geo (len_over n ∷ []) (b ∷ []) old was new now)
-    (λ b. (contents : ℕ → List ℕ) → GoesOn new now contents → IsIndexNodeAt contents b (record { level = c.args.level; branches = siblings }))
+    (λ b. (contents : ℕ → List ℕ) → GoesOnInLeb new now contents → IsIndexNodeAt contents b (record { level = c.args.level; branches = siblings }))
     (λ b. HasFirstKey b siblings)
     (λ b. IsCrowned geo c.args.level siblings (lens_above n geo.fanout n) old was b new now)
     (λ b lays stands key.
@@ -131,7 +131,7 @@ returns-clause-crowned g t c =
     let now = (g.V.Volume.state c.lay_levels.new.volume).holds in
     let L : List Branch → Type 0 = λ l. Lays geo (level_lens f n) l old was mid then' in
     let O : List Branch → Type 0 = λ l. AreOver f siblings l [] in
-    let S : List Branch → Type 0 = λ l. (contents : ℕ → List ℕ) → GoesOn mid then' contents → StandOver contents f c.args.level siblings l in
+    let S : List Branch → Type 0 = λ l. (contents : ℕ → List ℕ) → GoesOnInLeb mid then' contents → StandOver contents f c.args.level siblings l in
     let lays = subst L (sym c.as_slice.ensures.value) c.in_ok-made.ensures.lays in
     let over = subst O (sym c.as_slice.ensures.value) c.in_ok-made.ensures.over in
     let stand = subst S (sym c.as_slice.ensures.value) c.in_ok-made.ensures.stand in

@@ -7,7 +7,7 @@ use Rattle.ubi_volume.specs.declared.fault.AreaFault.TheVariants.{Memory}
 use Rattle.media_sys.specs.declared.branch.Branch.{Branch}
 use Rattle.index_media.specs.PlacedRow.{branch_to}
 use Rattle.laid_index.specs.Crowned.{IsCrowned}
-use Rattle.laid_index.specs.Opened.{IsReady, open_lnum, taken_after}
+use Rattle.laid_index.specs.Opened.{AreNodesReady, open_lnum, taken_after}
 use Rattle.laid_index.specs.Packing.{index_used, lens_above, packed}
 use Rattle.laid_index.specs.Rows.{AreInOrder}
 use Rattle.laid_index.proofs.Answering.{answered_err, answered_memory, answered_none, answered_ok, answered_then, answered_wider, exit_answered, geometry_kept}
@@ -49,7 +49,7 @@ lay_levels-requires-clause-ready g c =
     let e : length c.as_slice.result.now ≡ length c.args.leaves.now = ap length s ∙ length-map c.args.leaves.now branch_to in
     let made = c.in_ok-leb.ensures in
     let fresh : IsFresh c.args.first c.args.sqnum leb = record { begins = made.first; used = made.used; bytes = made.bytes; number = made.sqnum } in
-    let P : ℕ → Type 0 = λ n. IsReady geo (lens_above n geo.fanout n) leb was in
+    let P : ℕ → Type 0 = λ n. AreNodesReady geo (lens_above n geo.fanout n) leb was in
     subst P (sym e) (fresh_ready geo c.args.first c.args.sqnum (length c.args.leaves.now) leb was c.args.geometry.now.in_range fresh c.requires.some c.requires.room c.requires.number)
 
 pub lay_levels-requires-clause-high : goal.lay_levels-requires-clause-high

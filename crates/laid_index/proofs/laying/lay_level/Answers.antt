@@ -6,7 +6,7 @@ use Rattle.ubifs_base.specs.RawOf.{raw_of}
 use Rattle.ubi_volume.specs.declared.fault.AreaFault.TheVariants.{Memory}
 use Rattle.media_sys.specs.Index.{IsIdxNode}
 use Rattle.media_sys.specs.declared.branch.Branch.{Branch}
-use Rattle.laid_index.specs.Opened.{IsReady, taken_after}
+use Rattle.laid_index.specs.Opened.{AreNodesReady, taken_after}
 use Rattle.laid_index.specs.Packing.{len_over, level_lens}
 use Rattle.laid_index.proofs.Answering.{answered_err, answered_memory, answered_none, answered_ok, answered_then, answered_wider, exit_answered}
 use Rattle.laid_index.proofs.Levels.{IsLevelUnderWay, level_begins, level_lays, level_more, level_over, next_node, next_ready, next_within}
@@ -48,7 +48,7 @@ lay_node-requires-clause-ready g c =
     let now = (g.V.Volume.state c.laying.volume).holds in
     let some : 0 < length rest = search rules in
     let is : c.min-n.result ≡ min (length rest) c.args.geometry.now.fanout = omega arith in
-    let P : ℕ → Type 0 = λ n. IsReady geo (len_over n ∷ []) c.laying.leb now in
+    let P : ℕ → Type 0 = λ n. AreNodesReady geo (len_over n ∷ []) c.laying.leb now in
     subst P (sym c.split_at.ensures.front_len)
     (next_ready geo c.args.level c.min-n.result c.args.siblings.now c.laying.made.items rest c.args.leb.now c.laying.leb was now c.args.geometry.now.in_range is some c.requires.ready c.laying.invariant.0)
 

@@ -1,5 +1,5 @@
 use Rattle.std.proofs.Common.{◌≡◌, ℕ, length, max, ap, ◌∙◌, arith, List, map}
-use Rattle.journal_scan.specs.Journal.{nodes_in}
+use Rattle.journal_scan.specs.Journal.{journal_nodes_in}
 use Rattle.journal_scan.specs.Places.{named_by}
 use Rattle.log_replay.specs.declared.committed_leaf.CommittedLeaf.{CommittedLeaf}
 use Rattle.log_replay.specs.Replay.{highest_of}
@@ -23,7 +23,7 @@ returns-clause-recovered c =
       texts = r.texts;
       recovered = λ parts is. c.in_ok-index.ensures.leaves parts (parts_recover parts r.reads c.args.buds.now named c.args.committed committed listed c.deref-3.result.now read.nodes.items is r.of_buds c.in_ok-named.ensures left r.nodes)
           (c.in_ok-found.ensures parts (map named_by c.args.buds.now) c.in_ok-named.ensures (parts_read parts r.reads c.args.buds.now c.args.committed committed listed read.copies.items is r.of_buds r.copies));
-      nodes = count ∙ nodes_counted (nodes_in r.reads) read.nodes.items r.nodes;
+      nodes = count ∙ nodes_counted (journal_nodes_in r.reads) read.nodes.items r.nodes;
       highest = most ∙ highest_is committed r.reads read.highest r.highest;
       sqnum = r.sqnum;
       tails = r.tails;

@@ -1,5 +1,5 @@
 use Rattle.std.proofs.Common.{ℕ, ap, ◌∙◌, arith}
-use Rattle.plain_backing.specs.Cells.{seen}
+use Rattle.plain_backing.specs.Cells.{seen_cells}
 use Rattle.fs_model.specs.Cover.{block_bytes}
 use Rattle.plain_backing.proofs.Counted.{block_set, held_there, set_counts, keeps_put, exact_blocks}
 use Rattle.plain_backing.proofs.Orders.{pair_cmp-total}
@@ -20,7 +20,7 @@ returns c =
     let there = held_there c.held.result _ c.is_none.result c.held.ensures c.is_none.ensures c.if-is_none.false in
     let counts = set_counts pair_cmp-total exact_blocks block_bytes old c.put-old.new.map.entries key c.args.bytes c.put-old.result put.ordered c.requires.room put.cells put.old in
     record {
-      tree = block_set c.args.cells.now c.args.ino c.args.block c.max-cells.result c.args.bytes _ there (ap seen put.cells ∙ seen-put pair_cmp-total exact_blocks old key c.args.bytes put.ordered c.requires.room) c.max-cells.ensures;
+      tree = block_set c.args.cells.now c.args.ino c.args.block c.max-cells.result c.args.bytes _ there (ap seen_cells put.cells ∙ seen-put pair_cmp-total exact_blocks old key c.args.bytes put.ordered c.requires.room) c.max-cells.ensures;
       counted = (omega (arith, counts, c.requires.counted.0, c.block_bytes-added.ensures, c.freed_block.ensures), c.requires.counted.1);
       bytes = omega (arith, c.block_bytes-added.ensures);
       room = record { inodes = λ key h. h; blocks = keeps_put _ _ _ _ _ put.cells; entries = λ key h. h };

@@ -1,7 +1,7 @@
 use Rattle.std.proofs.Common.{ap, ◌∙◌, ◌+◌, ◌-◌, arith, refl}
 use Rattle.std.proofs.lemmas.Cmp.{nat_cmp_total}
 use Rattle.std.proofs.lemmas.Map.Lookups.{exact_unsigned}
-use Rattle.plain_backing.specs.Cells.{seen}
+use Rattle.plain_backing.specs.Cells.{seen_cells}
 use Rattle.fs_model.specs.Cover.{inode_bytes}
 use Rattle.plain_backing.proofs.Counted.{set_counts, keeps_put, tree_same, few_orphans, orphans_set}
 use Rattle.plain_backing.proofs.Seen.{seen-put}
@@ -32,7 +32,7 @@ returns c =
     let orphans = orphans_set old c.put-old.new.map.entries c.args.ino c.args.inode c.put-old.result c.freed_orphans.result c.args.cells.now.orphans put.ordered c.requires.room put.cells put.old c.freed_orphans.ensures c.requires.counted.1 in
     let counts = set_counts nat_cmp_total exact_unsigned inode_bytes old c.put-old.new.map.entries c.args.ino c.args.inode c.put-old.result put.ordered c.requires.room put.cells put.old in
     record {
-      tree = tree_same _ _ _ _ _ _ _ _ (ap seen put.cells ∙ seen-put nat_cmp_total exact_unsigned old c.args.ino c.args.inode put.ordered c.requires.room) refl refl c.max-cells.ensures;
+      tree = tree_same _ _ _ _ _ _ _ _ (ap seen_cells put.cells ∙ seen-put nat_cmp_total exact_unsigned old c.args.ino c.args.inode put.ordered c.requires.room) refl refl c.max-cells.ensures;
       counted = (omega (arith, counts, c.requires.counted.0, c.inode_bytes-added.ensures, c.freed_inode.ensures), ap (λ n. c.args.cells.now.orphans + n - c.freed_orphans.result) c.orphans_in-more.ensures ∙ orphans.1);
       bytes = omega (arith, c.inode_bytes-added.ensures);
       room = record { inodes = keeps_put _ _ _ _ _ put.cells; blocks = λ key h. h; entries = λ key h. h };

@@ -1,7 +1,7 @@
 use Rattle.std.proofs.Common.{◌≡◌, ℕ, ◌+◌, List, [], ◌∷◌, ◌++◌, length, map, All, ap, refl, sym, ◌∙◌, subst, arith, rules}
 use Rattle.std.proofs.lemmas.List.{length_push, map-append}
 use Rattle.std.proofs.lemmas.List.Elements.{All-nil, All-push}
-use Rattle.traced_files.specs.States.{PassState}
+use Rattle.traced_files.specs.States.{TracedPassState}
 use Rattle.writeback.specs.declared.job.Job.{Job}
 use Rattle.script_phase.specs.Phases.{AreNumberedFrom, ops_by}
 use Rattle.script_phase.proofs.Found.{pass_of}
@@ -31,11 +31,11 @@ loop-pass-preserved c =
     let job : Job = record { pass = pass; now = c.args.now; ops = parted.ops } in
     let number : pass.caller ≡ length c.loop-pass.yielded + 1 = numbered.0 in
     let longer = length_push c.loop-pass.yielded pass in
-    let same : c.pass.inside.caller ≡ pass.caller = ap (λ (p : PassState). p.caller) c.pass.view_is in
+    let same : c.pass.inside.caller ≡ pass.caller = ap (λ (p : TracedPassState). p.caller) c.pass.view_is in
     record {
       all = one_came c.loop-pass.yielded c.loop-pass.pass-iterator.rest.items rest c.args.passes.items pass i.all next;
       numbered = subst (λ (n : ℕ). AreNumberedFrom n rest) (omega (arith, longer)) numbered.1;
-      passes = ap (map pass_of) c.in_ok-push.ensures.items ∙ (map-append pass_of c.loop-pass.jobs.items (job ∷ []) ∙ ap (λ (x : List PassState). x ++ pass ∷ []) i.passes);
+      passes = ap (map pass_of) c.in_ok-push.ensures.items ∙ (map-append pass_of c.loop-pass.jobs.items (job ∷ []) ∙ ap (λ (x : List TracedPassState). x ++ pass ∷ []) i.passes);
       ops = subst (All (IsJobOf c.args.now lines)) (sym c.in_ok-push.ensures.items)
           (All-push (IsJobOf c.args.now lines) c.loop-pass.jobs.items job i.ops (refl, c.in_ok-ops.ensures.ops ∙ (ap (λ (n : ℕ). ops_by n c.loop-pass.left.items) same ∙ i.left pass.caller (omega (arith, number)))));
       left = λ other less. c.in_ok-ops.ensures.rest other (λ is. omega (arith, is, less, number, longer, same)) ∙ i.left other (omega (arith, less, longer));

@@ -8,7 +8,7 @@ use Rattle.script_text.specs.declared.part.Part.{Part}
 use Rattle.script_text.specs.Script.{IsInRange, Leads}
 use Rattle.script_phase.specs.declared.lines.CallerLine.{CallerLine}
 use Rattle.script_run.specs.Phases.{HasAdvanced, IsPhase, ArePhases}
-use Rattle.script_run.specs.Run.{Running, opening_on}
+use Rattle.script_run.specs.Run.{ScriptRunning, opening_on}
 use Rattle.script_run.specs.Sessions.{AreReady, IsWaiting, running_of, stage_of, state_in}
 use Rattle.script_run.proofs.PhaseRuns.{advance_mounts, advanced, run_ends}
 use Rattle.script_run.proofs.lines.play_lines.Goals as goal
@@ -30,7 +30,7 @@ loop-part-init g c =
     let all : rest ≡ c.args.parts.items = search rules in
     let many : length rest ≡ length c.args.parts.items = ap (λ (parts : List Part). length parts) all in
     let none : length c.new.result.items ≡ 0 = ap (λ (lines : List CallerLine). length lines) c.new.ensures.items in
-    let number : session.number ≡ 0 = ap (λ (s : Running). s.number) opened in
+    let number : session.number ≡ 0 = ap (λ (s : ScriptRunning). s.number) opened in
     let few = c.requires.few in
     let first = opening_on c.args.opening.tree (state_in session).journal c.args.opening.space.weight in
     record {
@@ -39,12 +39,12 @@ loop-part-init g c =
         (state_in session).journal,
         c.in_ok-session.ensures.left,
         λ more last run.
-            let here = subst (λ (s : Running). ArePhases geo s c.new.result.items rest more last) opened run in
+            let here = subst (λ (s : ScriptRunning). ArePhases geo s c.new.result.items rest more last) opened run in
             let empty = subst (λ (lines : List CallerLine). ArePhases geo first lines rest more last) c.new.ensures.items here in
             let whole = subst (λ (parts : List Part). ArePhases geo first [] parts more last) all empty in
             subst (λ (t : List ℕ). ArePhases geo first [] c.args.parts.items (t ++ more) last) (sym c.new-text.ensures.items) whole,
       );
-      order = (c.requires.order.0, subst (λ (b : Bool). Leads b rest c.requires.order.0) (sym (ap (λ (s : Running). s.mounted) opened)) (subst (λ (parts : List Part). Leads false parts c.requires.order.0) (sym all) c.requires.order.1));
+      order = (c.requires.order.0, subst (λ (b : Bool). Leads b rest c.requires.order.0) (sym (ap (λ (s : ScriptRunning). s.mounted) opened)) (subst (λ (parts : List Part). Leads false parts c.requires.order.0) (sym all) c.requires.order.1));
       range = subst (AllByRecursion IsInRange) (sym all) c.requires.range;
       few = omega (arith, number, none, many, few);
     }

@@ -1,7 +1,7 @@
 use Rattle.std.proofs.Common.{◌++◌, List, ℕ, ap, subst, refl, ◌∙◌}
 use Rattle.std.proofs.lemmas.List.{append_assoc}
 use Rattle.ubifs_base.specs.declared.raw_geometry.RawGeometry.{RawGeometry}
-use Rattle.script_run.specs.Run.{IsPart}
+use Rattle.script_run.specs.Run.{IsScriptPart}
 use Rattle.script_run.specs.Sessions.{running_of}
 use Rattle.script_run.proofs.Covering.{session_covers}
 use Rattle.script_run.proofs.Running.{called}
@@ -24,7 +24,7 @@ returns-clause-turn g c =
         phase = phase.1;
         covered = session_covers _ middle c.in_ok-session.ensures.session;
         line = line.0;
-        control = subst (λ (g : RawGeometry). IsPart g (running_of middle) c.args.part line.0 (running_of last)) same line.1;
+        control = subst (λ (g : RawGeometry). IsScriptPart g (running_of middle) c.args.part line.0 (running_of last)) same line.1;
         printed = refl;
       },
       line.2 ∙ (ap (λ (t : List ℕ). t ++ line.0) phase.2 ∙ append_assoc c.args.text.now.items phase.0 line.0),

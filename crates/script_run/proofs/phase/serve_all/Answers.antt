@@ -1,7 +1,7 @@
 use Rattle.std.proofs.Common.{◌≡◌, ◌++◌, List, ap, rules, ◌∙◌, sym}
 use Rattle.std.proofs.lemmas.Bool.{false≢true}
 use Rattle.fs_model.specs.declared.trace.TraceLine.{TraceLine}
-use Rattle.plain_backing.specs.PlainBacking.{state_of}
+use Rattle.plain_backing.specs.PlainBacking.{backing_state_of}
 use Rattle.script_run.specs.Phases.{trace_text}
 use Rattle.script_run.specs.Sessions.{state_in}
 use Rattle.script_run.proofs.AtOnce.{at_once_of, calls_of, mounted_of, steady_of, unfailing_of}
@@ -34,6 +34,6 @@ returns-clause-phase g c =
     let nameless = c.present_files_are_sound.ensures.nameless in (
       trace_text closed.trace.items,
       at_once_of old.backing new.backing old.kept new.kept old.refused.items new.refused.items session.mounted session.now session.number session.workers c.args.lines.items closed.trace.items c.requires.session.steady
-          (returns-clause-session g c).steady (nameless (state_of old.backing).tree old.kept old.ready.kept_fits) (nameless (state_of new.backing).tree new.kept new.ready.kept_fits) new.ready.kept_fits c.clean_files_are_those_of_the_backing.ensures c.in_ok-fs.ensures.left c.in_ok-fs.ensures.trace,
+          (returns-clause-session g c).steady (nameless (backing_state_of old.backing).tree old.kept old.ready.kept_fits) (nameless (backing_state_of new.backing).tree new.kept new.ready.kept_fits) new.ready.kept_fits c.clean_files_are_those_of_the_backing.ensures c.in_ok-fs.ensures.left c.in_ok-fs.ensures.trace,
       c.in_ok-write_trace.ensures ∙ ap (λ (t : List TraceLine). c.args.text.now.items ++ trace_text t) printed,
     )

@@ -4,7 +4,7 @@ use Rattle.std.proofs.lemmas.List.Elements.{All-head, All-tail}
 use Rattle.ubifs_base.specs.declared.raw_geometry.RawGeometry.{RawGeometry}
 use Rattle.script_phase.specs.declared.lines.CallerLine.{CallerLine}
 use Rattle.script_run.specs.Phases.{AreServed}
-use Rattle.script_run.specs.Run.{IsServed, Running}
+use Rattle.script_run.specs.Run.{IsLineServed, ScriptRunning}
 use Rattle.script_run.specs.Sessions.{IsSession, IsWaiting, running_of, state_in}
 use Rattle.script_run.proofs.PhaseRuns.{served_ends}
 use Rattle.script_run.proofs.phase.serve_in_turn.Goals as goal
@@ -38,14 +38,14 @@ loop-line-preserved c =
     let next = c.in-Some.ensures.steps.0 in
     let same = was.session.steady.geometry in
     let step = c.in_ok-session.ensures.part in
-    let one : IsServed geo (running_of old) line.caller line.op step.0 (running_of new) = subst (λ (g : RawGeometry). IsServed g (running_of old) line.caller line.op step.0 (running_of new)) same step.1 in
+    let one : IsLineServed geo (running_of old) line.caller line.op step.0 (running_of new) = subst (λ (g : RawGeometry). IsLineServed g (running_of old) line.caller line.op step.0 (running_of new)) same step.1 in
     let all = subst (All (IsWaiting c.args.session.mounted)) next was.lines in
     let few = was.few in
     let more_few = c.in_ok-session.ensures.few in
     let lengths : length c.loop-line.line-iterator.rest.items ≡ length (line ∷ rest) = ap (λ (ls : List CallerLine). length ls) next in
     record {
       session = subst (λ (g : RawGeometry). IsSession g new) same c.in_ok-session.ensures.session;
-      mounted = ap (λ (s : Running). s.mounted) one.rest ∙ was.mounted;
+      mounted = ap (λ (s : ScriptRunning). s.mounted) one.rest ∙ was.mounted;
       lines = All-tail (IsWaiting c.args.session.mounted) line rest all;
       few = omega (arith, few, more_few, lengths);
       served = λ more last others.

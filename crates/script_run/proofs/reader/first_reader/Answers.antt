@@ -1,14 +1,14 @@
 use Rattle.std.proofs.Common.{◌≡◌, ap, arith, length, sym, subst}
 use Rattle.plain_backing.specs.declared.backing.PlainBacking.{PlainBacking}
-use Rattle.plain_backing.specs.PlainBacking.{state_of}
-use Rattle.script_run.specs.Readers.{IsClosed}
+use Rattle.plain_backing.specs.PlainBacking.{backing_state_of}
+use Rattle.script_run.specs.Readers.{IsBackingClosed}
 use Rattle.script_run.proofs.reader.first_reader.Goals as goal
 
 pub returns-in-Ok-clause-closed : goal.returns-in-Ok-clause-closed
 returns-in-Ok-clause-closed c =
     let made = c.in_ok-backing.ensures.state in
     let kept = c.in-Ok.fs.kept in
-    let weight : (state_of c.in_ok-backing.backing).space.weight ≡ 0 = ap (λ s. s.space.weight) made in
+    let weight : (backing_state_of c.in_ok-backing.backing).space.weight ≡ 0 = ap (λ s. s.space.weight) made in
     let none : length kept.pages.dirty ≡ 0 = ap (λ dirty. length dirty) c.in-Ok.ensures.opened.dirty in
-    let P : PlainBacking → Type 0 = λ backing. IsClosed c.args.cause backing kept in
+    let P : PlainBacking → Type 0 = λ backing. IsBackingClosed c.args.cause backing kept in
     subst P (sym c.in-Ok.ensures.backing) (record { mode = ap (λ s. s.mode) made; light = omega (arith, weight, none) })

@@ -1,5 +1,5 @@
 use Rattle.std.proofs.Common.{sym, ◌∙◌}
-use Rattle.plain_backing.specs.PlainBacking.{state_of}
+use Rattle.plain_backing.specs.PlainBacking.{backing_state_of}
 use Rattle.vfs_ops.specs.Steps.{Passage}
 use Rattle.script_run.specs.Reading.{Reading}
 use Rattle.script_run.specs.Readers.{seen_over}
@@ -9,8 +9,8 @@ use Rattle.script_run.proofs.reader.read_replied.Goals as goal
 
 pub returns-clause-closed : goal.returns-clause-closed
 returns-clause-closed c =
-    let old = state_of c.args.fs.now.backing in
-    let new = state_of c.step-outcome.new.self.backing in
+    let old = backing_state_of c.args.fs.now.backing in
+    let new = backing_state_of c.step-outcome.new.self.backing in
     let before = c.args.fs.now.kept in
     let after = c.step-outcome.new.self.kept in
     let reply = c.parts_of-told.result.0 in
@@ -27,8 +27,8 @@ returns-clause-closed c =
 
 pub returns-clause-replied : goal.returns-clause-replied
 returns-clause-replied c = λ mounted numbers.
-    let old = state_of c.args.fs.now.backing in
-    let new = state_of c.step-outcome.new.self.backing in
+    let old = backing_state_of c.args.fs.now.backing in
+    let new = backing_state_of c.step-outcome.new.self.backing in
     let before = c.args.fs.now.kept in
     let after = c.step-outcome.new.self.kept in
     let reply = c.parts_of-told.result.0 in
@@ -40,4 +40,4 @@ returns-clause-replied c = λ mounted numbers.
 
 pub parts_of-told-requires : goal.parts_of-told-requires
 parts_of-told-requires c =
-    reply_of (state_of c.args.fs.now.backing) (state_of c.step-outcome.new.self.backing) c.args.fs.now.kept c.step-outcome.new.self.kept _ _ c.args.caller c.args.now c.args.op c.step-outcome.result c.step-outcome.ensures.step.answered
+    reply_of (backing_state_of c.args.fs.now.backing) (backing_state_of c.step-outcome.new.self.backing) c.args.fs.now.kept c.step-outcome.new.self.kept _ _ c.args.caller c.args.now c.args.op c.step-outcome.result c.step-outcome.ensures.step.answered

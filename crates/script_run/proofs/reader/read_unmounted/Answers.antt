@@ -1,7 +1,7 @@
 use Rattle.std.proofs.Common.{◌≡◌, ◌+◌, ◌*◌, ◌∙◌, false, ap, arith, length, refl, rules, sym}
 use Rattle.std.specs.Prelude.{codes}
 use Rattle.fs_model.specs.Files.{Files}
-use Rattle.plain_backing.specs.PlainBacking.{state_of}
+use Rattle.plain_backing.specs.PlainBacking.{backing_state_of}
 use Rattle.text_lines.specs.Lines.{ended}
 use Rattle.script_run.specs.Readers.{seen_over}
 use Rattle.script_run.specs.Reading.{Reading, no_numbers}
@@ -13,10 +13,10 @@ pub returns-in-Ok-clause-closed : goal.returns-in-Ok-clause-closed
 returns-in-Ok-clause-closed c =
     let was = c.requires.closed in
     let same = c.in-Ok.ensures.backing ∙ c.into_parts-backing.ensures in
-    let weight = ap (λ b. (state_of b).space.weight) same in
+    let weight = ap (λ b. (backing_state_of b).space.weight) same in
     let none : length c.in-Ok.fs.kept.pages.dirty ≡ 0 = ap (λ dirty. length dirty) c.in-Ok.ensures.opened.dirty in
-    let light : (state_of c.args.reader.fs.backing).space.weight + 2 * length c.args.reader.fs.kept.pages.dirty ≡ 0 = was.light in
-    record { mode = ap (λ b. (state_of b).mode) same ∙ was.mode; light = omega (arith, weight, none, light) }
+    let light : (backing_state_of c.args.reader.fs.backing).space.weight + 2 * length c.args.reader.fs.kept.pages.dirty ≡ 0 = was.light in
+    record { mode = ap (λ b. (backing_state_of b).mode) same ∙ was.mode; light = omega (arith, weight, none, light) }
 
 pub returns-in-Ok-clause-part : goal.returns-in-Ok-clause-part
 returns-in-Ok-clause-part c =
@@ -24,10 +24,10 @@ returns-in-Ok-clause-part c =
     let backing = c.args.reader.fs.backing in
     let same = c.in-Ok.ensures.backing ∙ c.into_parts-backing.ensures in
     let opened = c.in-Ok.ensures.opened in
-    let clean = c.clean_files_are_those_of_the_backing.ensures (state_of backing).tree c.args.reader.fs.kept c.args.reader.fs.ready.kept_fits
-    (none_dirty c.args.reader.fs.kept.pages.dirty (state_of backing).space.weight was.light) in
-    let stored = ap (λ b. (state_of b).tree) same ∙ sym clean in
-    let files = bare_files (state_of c.in-Ok.fs.backing).tree (seen_over backing c.args.reader.fs.kept).tree c.in-Ok.fs.kept stored (record { pages = opened.dirty; inodes = opened.inodes; handles = opened.handles }) in (
+    let clean = c.clean_files_are_those_of_the_backing.ensures (backing_state_of backing).tree c.args.reader.fs.kept c.args.reader.fs.ready.kept_fits
+    (none_dirty c.args.reader.fs.kept.pages.dirty (backing_state_of backing).space.weight was.light) in
+    let stored = ap (λ b. (backing_state_of b).tree) same ∙ sym clean in
+    let files = bare_files (backing_state_of c.in-Ok.fs.backing).tree (seen_over backing c.args.reader.fs.kept).tree c.in-Ok.fs.kept stored (record { pages = opened.dirty; inodes = opened.inodes; handles = opened.handles }) in (
       ended (codes "unmount unchanged"),
       (refl, ap (λ (f : Files). let r : Reading = record { files = f; mounted = false; now = c.args.reader.now; numbers = no_numbers } in r) files),
       search (rules, c.as_slice.ensures, c.in_ok-extend_from_slice.ensures.items),

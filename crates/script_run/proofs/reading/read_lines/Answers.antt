@@ -3,7 +3,7 @@ use Rattle.std.specs.List.{AllByRecursion}
 use Rattle.fs_model.specs.declared.refusal.Cause.{Cause}
 use Rattle.script_text.specs.declared.part.Part.{Part}
 use Rattle.script_text.specs.Script.{IsInRange}
-use Rattle.script_run.specs.Readers.{IsClosed, reading_of}
+use Rattle.script_run.specs.Readers.{IsBackingClosed, reading_of}
 use Rattle.script_run.specs.Reading.{IsReadPart, IsReadRun, reading_on}
 use Rattle.script_run.proofs.ReadLines.{read_more}
 use Rattle.script_run.proofs.reading.read_lines.Goals as goal
@@ -18,7 +18,7 @@ loop-part-preserved c =
     let same = was.cause in
     let step = c.in_ok-reader-2.ensures.part in
     let P : Cause → Type 0 = λ cause. IsReadPart cause before c.in-Some.part step.0 after in
-    let Q : Cause → Type 0 = λ cause. IsClosed cause c.in_ok-reader-2.reader.fs.backing c.in_ok-reader-2.reader.fs.kept in
+    let Q : Cause → Type 0 = λ cause. IsBackingClosed cause c.in_ok-reader-2.reader.fs.backing c.in_ok-reader-2.reader.fs.kept in
     let range = subst (λ (parts : List Part). AllByRecursion IsInRange parts) next was.range in
     record {
       closed = subst Q same c.in_ok-reader-2.ensures.closed;

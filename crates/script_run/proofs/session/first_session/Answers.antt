@@ -1,7 +1,7 @@
 use Rattle.std.proofs.Common.{ap, length, refl, sym, subst, ◌∙◌}
 use Rattle.ubifs_base.specs.RawOf.{raw_of}
 use Rattle.plain_backing.specs.declared.backing.PlainBacking.{PlainBacking}
-use Rattle.plain_backing.specs.PlainBacking.{state_of}
+use Rattle.plain_backing.specs.PlainBacking.{backing_state_of}
 use Rattle.script_run.specs.Run.{LeavesOnly}
 use Rattle.script_run.specs.Sessions.{IsSteady}
 use Rattle.script_run.proofs.session.first_session.Goals as goal
@@ -26,4 +26,4 @@ returns-in-Ok-clause-session c =
     }
 
 pub returns-in-Ok-clause-left : goal.returns-in-Ok-clause-left
-returns-in-Ok-clause-left c = subst (λ (b : PlainBacking). LeavesOnly (state_of b).journal c.args.opening.tree) (sym c.in-Ok.ensures.backing) c.in_ok-backing.ensures.left
+returns-in-Ok-clause-left c = subst (λ (b : PlainBacking). LeavesOnly (backing_state_of b).journal c.args.opening.tree) (sym c.in-Ok.ensures.backing) c.in_ok-backing.ensures.left

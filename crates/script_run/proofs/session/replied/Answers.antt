@@ -3,12 +3,12 @@ use Rattle.std.specs.Prelude.{if◌then◌else◌}
 use Rattle.ubifs_base.specs.RawOf.{raw_of}
 use Rattle.fs_model.specs.Backing.{next_orphans}
 use Rattle.fs_model.specs.Orphan.{leaves_orphan}
-use Rattle.plain_backing.specs.PlainBacking.{state_of}
+use Rattle.plain_backing.specs.PlainBacking.{backing_state_of}
 use Rattle.vfs_ops.specs.declared.event.Event.TheVariants.{Call}
 use Rattle.vfs_ops.specs.declared.event.Outcome.{Outcome}
 use Rattle.vfs_ops.specs.Passing.{IsStep}
 use Rattle.vfs_ops.specs.Steps.{Passage}
-use Rattle.script_run.specs.Run.{line_of, nodes_added, nodes_for, orphans_told}
+use Rattle.script_run.specs.Run.{script_line_of, nodes_added, nodes_for, orphans_told}
 use Rattle.script_run.specs.Sessions.{mounted_over}
 use Rattle.script_run.proofs.Answering.{answer_of, exact_of, grows_of, issued_of, no_room, reply_of, steady_next, told_of, weighed_of, written_of}
 use Rattle.script_run.proofs.AtOnce.{over}
@@ -20,8 +20,8 @@ use Rattle.script_run.proofs.session.replied.Goals as goal
 
 pub returns-clause-steady : goal.returns-clause-steady
 returns-clause-steady c =
-    let old = state_of c.args.fs.now.backing in
-    let new = state_of c.step-outcome.new.self.backing in
+    let old = backing_state_of c.args.fs.now.backing in
+    let new = backing_state_of c.step-outcome.new.self.backing in
     let before = c.args.fs.now.kept in
     let after = c.step-outcome.new.self.kept in
     let told = told_of old new before after _ _ c.args.caller c.args.now c.args.op c.step-outcome.result c.parts_of-told.result.0 c.parts_of-told.result.1 c.parts_of-told.ensures c.step-outcome.ensures.step.answered in
@@ -43,30 +43,30 @@ returns-clause-replied c =
     let step = c.step-outcome.ensures.step in
     let steady = returns-clause-steady c in
     let fits = c.step-outcome.new.self.ready.kept_fits in
-    let clean = c.clean_files_are_those_of_the_backing.ensures (state_of new).tree after in
+    let clean = c.clean_files_are_those_of_the_backing.ensures (backing_state_of new).tree after in
     let nameless = c.present_files_are_sound.ensures.nameless in
-    let told = told_of (state_of old) (state_of new) before after _ _ c.args.caller c.args.now c.args.op c.step-outcome.result reply left is step.answered in
+    let told = told_of (backing_state_of old) (backing_state_of new) before after _ _ c.args.caller c.args.now c.args.op c.step-outcome.result reply left is step.answered in
     let first = over old before c.args.fs.now.refused.items in
     let last = over new after c.step-outcome.new.self.refused.items in
-    let passage : Passage = record { old = state_of old; new = state_of new; before = before; after = after } in
+    let passage : Passage = record { old = backing_state_of old; new = backing_state_of new; before = before; after = after } in
     record {
-      answer = answer_of geo (state_of old) (state_of new) after was here c.args.caller c.args.op reply _ _
+      answer = answer_of geo (backing_state_of old) (backing_state_of new) after was here c.args.caller c.args.op reply _ _
           (record {
             was = c.requires.steady.mode;
             is = steady.mode;
             faults_were = c.requires.steady.faults;
             faults = steady.faults;
             limit = c.requires.steady.orphans;
-            orphans = ap (λ n. n + (state_of old).closed) (sym (nameless (state_of old).tree before c.args.fs.now.ready.kept_fits));
+            orphans = ap (λ n. n + (backing_state_of old).closed) (sym (nameless (backing_state_of old).tree before c.args.fs.now.ready.kept_fits));
           })
-          (no_room geo (state_of old) new after c.args.now steady fits clean)
+          (no_room geo (backing_state_of old) new after c.args.now steady fits clean)
           (sym c.is_memory.ensures ∙ c.if-is_memory.false) refl told.0;
-      orphans = grows_of (orphans_told was) (orphans_told here) (next_orphans (state_of old)) (next_orphans (state_of new)) (if leaves_orphan was.files here.files then 1 else 0)
-          (ap (λ n. n + (state_of old).closed) (nameless (state_of old).tree before c.args.fs.now.ready.kept_fits)) (ap (λ n. n + (state_of new).closed) (nameless (state_of new).tree after fits))
+      orphans = grows_of (orphans_told was) (orphans_told here) (next_orphans (backing_state_of old)) (next_orphans (backing_state_of new)) (if leaves_orphan was.files here.files then 1 else 0)
+          (ap (λ n. n + (backing_state_of old).closed) (nameless (backing_state_of old).tree before c.args.fs.now.ready.kept_fits)) (ap (λ n. n + (backing_state_of new).closed) (nameless (backing_state_of new).tree after fits))
           step.orphans;
       under = record { kept = after; fits = fits; seen = refl };
-      synced = stored_of old new before after c.args.now c.args.caller c.args.op reply fits clean (written_of (state_of old) (state_of new) before after c.args.caller c.args.now c.args.op c.step-outcome.result reply left c.requires.steady.mode is step.written);
-      left = c.a_line_leaves_what_was_seen.ensures first last (line_of was c.args.caller c.args.op reply) 0 left c.requires.steady.mode (omega arith) c.requires.call c.args.fs.now.ready c.step-outcome.new.self.ready (told_journal old) (told_journal new)
+      synced = stored_of old new before after c.args.now c.args.caller c.args.op reply fits clean (written_of (backing_state_of old) (backing_state_of new) before after c.args.caller c.args.now c.args.op c.step-outcome.result reply left c.requires.steady.mode is step.written);
+      left = c.a_line_leaves_what_was_seen.ensures first last (script_line_of was c.args.caller c.args.op reply) 0 left c.requires.steady.mode (omega arith) c.requires.call c.args.fs.now.ready c.step-outcome.new.self.ready (told_journal old) (told_journal new)
           (subst (λ (o : Outcome). IsStep first last (Call c.args.caller c.args.now 0 c.args.op) o) is step);
       still = still_of passage c.args.caller c.args.now c.args.op reply left c.a_plain_answer_is_no_refusal.ensures c.args.fs.now.ready.sound (exact_of passage c.args.caller c.args.now c.args.op c.step-outcome.result reply left is step.exact);
       grown = grown_of old new before after c.args.now (nodes_added was c.args.caller c.args.op reply) (nodes_for was c.args.caller c.args.op) _
@@ -76,4 +76,4 @@ returns-clause-replied c =
 
 pub parts_of-told-requires : goal.parts_of-told-requires
 parts_of-told-requires c =
-    reply_of (state_of c.args.fs.now.backing) (state_of c.step-outcome.new.self.backing) c.args.fs.now.kept c.step-outcome.new.self.kept _ _ c.args.caller c.args.now c.args.op c.step-outcome.result c.step-outcome.ensures.step.answered
+    reply_of (backing_state_of c.args.fs.now.backing) (backing_state_of c.step-outcome.new.self.backing) c.args.fs.now.kept c.step-outcome.new.self.kept _ _ c.args.caller c.args.now c.args.op c.step-outcome.result c.step-outcome.ensures.step.answered

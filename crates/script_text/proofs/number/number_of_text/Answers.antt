@@ -1,5 +1,5 @@
 use Rattle.std.proofs.Common.{refl}
-use Rattle.script_text.specs.Words.{IsPlain}
+use Rattle.script_text.specs.Words.{IsPlainNumeral}
 use Rattle.script_text.proofs.Decimals.{found_of, plain_decimal, ok_of}
 use Rattle.script_text.proofs.number.number_of_text.Goals as goal
 
@@ -8,7 +8,7 @@ returns-then-is_plain-clause-found c = found_of _ c.args.text.now c.in-Ok.n c.pa
 
 pub returns-else-is_plain-clause-none : goal.returns-else-is_plain-clause-none
 returns-else-is_plain-clause-none c = λ n fits e.
-    let plain : IsPlain c.as_bytes.result.now = rw (c.as_bytes.ensures.value, e) (plain_decimal n fits) in
+    let plain : IsPlainNumeral c.as_bytes.result.now = rw (c.as_bytes.ensures.value, e) (plain_decimal n fits) in
     let wrong = c.if-is_plain.ensures.1 plain in absurd cc
 
 pub returns-in-Err-clause-none : goal.returns-in-Err-clause-none

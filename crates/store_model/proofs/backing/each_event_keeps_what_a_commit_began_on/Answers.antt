@@ -1,7 +1,7 @@
 use Rattle.std.proofs.Common.{refl}
 use Rattle.store_model.specs.Begun.{HasBegun, JournalLeads}
 use Rattle.store_model.specs.Events.{after, Begin, Drop, End, Event, Free, Move, Offer, Open, Put, Start, Sync, Write}
-use Rattle.store_model.specs.Invariant.{AreApart, HasNumbers, HasSince}
+use Rattle.store_model.specs.Invariant.{AreRolesApart, HasNumbers, HasSince}
 use Rattle.store_model.specs.Legal.{IsLegalEvent}
 use Rattle.store_model.specs.Store.{Store}
 use Rattle.store_model.proofs.BegunCommits.{end_begun, start_begun}
@@ -11,7 +11,7 @@ use Rattle.store_model.proofs.backing.each_event_keeps_what_a_commit_began_on.Go
 pub returns : goal.returns
 returns c = by
   where
-    by : (m : Store) (event : Event) → IsLegalEvent m event → AreApart m → HasSince m m.next → HasNumbers m → JournalLeads m → HasBegun m m.next → HasBegun (after event m) (after event m).next
+    by : (m : Store) (event : Event) → IsLegalEvent m event → AreRolesApart m → HasSince m m.next → HasNumbers m → JournalLeads m → HasBegun m m.next → HasBegun (after event m) (after event m).next
     by m (Put p) can a s n l b = put_begun m p can.parts a s b
     by m (Open head lnum) can a s n l b = open_begun m head lnum b
     by m Sync can a s n l b = sync_begun m b

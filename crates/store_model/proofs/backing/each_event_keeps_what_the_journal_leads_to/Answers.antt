@@ -3,7 +3,7 @@ use Rattle.fs_model.specs.Orphan.{nameless}
 use Rattle.fs_model.specs.Proper.{IsProper}
 use Rattle.store_model.specs.Begun.{HasBegun, JournalLeads}
 use Rattle.store_model.specs.Events.{after, Begin, begin, Drop, End, Event, Free, free_victim, Move, move, Offer, offer, Open, open_leb, Put, Start, start, Sync, sync, Write, write_index}
-use Rattle.store_model.specs.Invariant.{AreApart, HasNumbers}
+use Rattle.store_model.specs.Invariant.{AreRolesApart, HasNumbers}
 use Rattle.store_model.specs.Legal.{IsLegalEvent}
 use Rattle.store_model.specs.Store.{Moving, Next, Store}
 use Rattle.store_model.proofs.EventNumbers.{groups_copied}
@@ -22,7 +22,7 @@ returns c = by
     written m None j = j
     written m (Some next) j = same_leads m (write_index m (Some next)) refl refl refl j
 
-    by : (m : Store) (event : Event) → IsLegalEvent m event → IsProper m.tree → map (λ orphan. orphan.ino) m.orphans ≡ nameless m.tree → AreApart m → HasNumbers m → HasBegun m m.next → JournalLeads m → JournalLeads (after event m)
+    by : (m : Store) (event : Event) → IsLegalEvent m event → IsProper m.tree → map (λ orphan. orphan.ino) m.orphans ≡ nameless m.tree → AreRolesApart m → HasNumbers m → HasBegun m m.next → JournalLeads m → JournalLeads (after event m)
     by m (Put p) can proper are a n b j = put_leads m p can.parts proper a n j
     by m (Open head lnum) can proper are a n b j = same_leads m (open_leb head lnum m) refl refl (rw (groups_open 1 head lnum m.now.buds, groups_open 2 head lnum m.now.buds) refl) j
     by m Sync can proper are a n b j = same_leads m (sync m) refl refl refl j

@@ -6,7 +6,7 @@ use Rattle.index_tree.specs.Shape.{node_count}
 use Rattle.space_budget.specs.BookLaws.{index_nodes-positive}
 use Rattle.store_model.specs.Events.{after, Begin, Drop, End, Event, Free, Move, Offer, Open, Put, Start, Sync, Write}
 use Rattle.store_model.specs.Indexed.{committed_index, HasLastPlaces}
-use Rattle.store_model.specs.Invariant.{AreApart, IsTaking}
+use Rattle.store_model.specs.Invariant.{AreRolesApart, IsTaking}
 use Rattle.store_model.specs.Lebs.{has_role}
 use Rattle.store_model.specs.Legal.{IsLegalEvent, KeepPlaces}
 use Rattle.store_model.specs.Store.{Next, Store}
@@ -18,7 +18,7 @@ use Rattle.store_model.specs.WrittenNodes.{rows_of}
 pub returns : goal.returns
 returns c = by
   where
-    by : (m : Store) (event : Event) → IsLegalEvent m event → IsGeometry m.geo → AreApart m → length m.index.places ≡ node_count m.index.shape
+    by : (m : Store) (event : Event) → IsLegalEvent m event → IsGeometry m.geo → AreRolesApart m → length m.index.places ≡ node_count m.index.shape
         → HasLastPlaces m → IsTaking m m.next → IsTaking (after event m) (after event m).next
     by m (Put p) can g a count last t = c.a_running_commit_keeps_its_lebs.ensures.put m p t
     by m (Open head lnum) can g a count last t = c.a_running_commit_keeps_its_lebs.ensures.open m head lnum can a t

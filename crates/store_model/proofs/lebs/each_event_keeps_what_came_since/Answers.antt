@@ -1,6 +1,6 @@
 use Rattle.store_model.specs.Events.{after, Begin, Drop, End, Event, Free, Move, Offer, Open, Put, Start, Sync, Write}
 use Rattle.std.proofs.Common.{refl}
-use Rattle.store_model.specs.Invariant.{AreApart, HasSince}
+use Rattle.store_model.specs.Invariant.{AreRolesApart, HasSince}
 use Rattle.store_model.specs.Legal.{IsLegalEvent}
 use Rattle.store_model.specs.Store.{Store}
 use Rattle.store_model.proofs.SinceCommits.{begin_since, end_since, free_since, move_since, offer_since, start_since, write_since}
@@ -9,7 +9,7 @@ use Rattle.store_model.proofs.lebs.each_event_keeps_what_came_since.Goals as goa
 pub returns : goal.returns
 returns c = by
   where
-    by : (m : Store) (event : Event) → IsLegalEvent m event → AreApart m → HasSince m m.next → HasSince (after event m) (after event m).next
+    by : (m : Store) (event : Event) → IsLegalEvent m event → AreRolesApart m → HasSince m m.next → HasSince (after event m) (after event m).next
     by m (Put p) can a s = c.a_running_commit_gets_what_is_put.ensures.put m p can a s
     by m (Open head lnum) can a s = c.a_running_commit_gets_what_is_put.ensures.open m head lnum s
     by m Sync can a s = c.a_running_commit_gets_what_is_put.ensures.sync m s

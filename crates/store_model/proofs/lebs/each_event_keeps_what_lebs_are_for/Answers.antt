@@ -1,5 +1,5 @@
 use Rattle.store_model.specs.Events.{after, Begin, Drop, End, Event, Free, Move, Offer, Open, Put, Start, Sync, Write}
-use Rattle.store_model.specs.Invariant.{AreApart, HasSince, IsTaking}
+use Rattle.store_model.specs.Invariant.{AreRolesApart, HasSince, IsTaking}
 use Rattle.store_model.specs.Legal.{IsLegalEvent}
 use Rattle.store_model.specs.Store.{Store}
 use Rattle.store_model.proofs.lebs.each_event_keeps_what_lebs_are_for.Goals as goal
@@ -7,7 +7,7 @@ use Rattle.store_model.proofs.lebs.each_event_keeps_what_lebs_are_for.Goals as g
 pub returns : goal.returns
 returns c = by
   where
-    by : (m : Store) (event : Event) → IsLegalEvent m event → IsTaking m m.next → HasSince m m.next → AreApart m → AreApart (after event m)
+    by : (m : Store) (event : Event) → IsLegalEvent m event → IsTaking m m.next → HasSince m m.next → AreRolesApart m → AreRolesApart (after event m)
     by m (Put p) can t s a = c.lebs_keep_what_they_are_for.ensures.put m p can a
     by m (Open head lnum) can t s a = c.lebs_keep_what_they_are_for.ensures.open m head lnum can a
     by m Sync can t s a = c.lebs_keep_what_they_are_for.ensures.sync m a

@@ -1,8 +1,8 @@
 use Rattle.std.proofs.Common.{◌≡◌, Bool, true, false, cond, Option, Some, None, refl, subst, inl, inr, [], ◌∷◌}
 use Rattle.leaf_map.specs.Parts.{Parts}
 use Rattle.leaf_map.specs.Recovered.{tree_found}
-use Rattle.store_model.specs.Fits.{FitsAny, FitsFaced, Fits, faced_next, faced_now, faces}
-use Rattle.store_model.specs.Invariant.{AreCarried, AreNumbered, HasCommitted, HaveOrphans, KeepOrphans, IsStore, OfNext, faced_later}
+use Rattle.store_model.specs.Fits.{FitsAny, FitsFaced, FitsStore, faced_next, faced_now, faces}
+use Rattle.store_model.specs.Invariant.{AreChangesCarried, AreNumbered, HasCommittedView, HaveOrphans, KeepOrphans, IsStore, OfNext, faced_later}
 use Rattle.store_model.specs.Recovery.{IsFoundBy}
 use Rattle.store_model.specs.Store.{Next, Store}
 use Rattle.store_model.proofs.Orphans.{have_orphans_now}
@@ -14,8 +14,8 @@ returns-clause-now c = λ m parts is fits.
 
 pub returns-clause-next : goal.returns-clause-next
 returns-clause-next c = λ m next parts is e fits.
-    let committed = subst (λ (o : Option Next). OfNext m o (λ f. HasCommitted f.view)) e is.views.committed.1 in
-    let carried = subst (λ (o : Option Next). OfNext m o (λ f. AreCarried f.view)) e is.views.carried.1 in
+    let committed = subst (λ (o : Option Next). OfNext m o (λ f. HasCommittedView f.view)) e is.views.committed.1 in
+    let carried = subst (λ (o : Option Next). OfNext m o (λ f. AreChangesCarried f.view)) e is.views.carried.1 in
     let numbers = subst (λ (o : Option Next). OfNext m o (AreNumbered m)) e is.numbers.both.1 in
     let later = subst (λ (o : Option Next). KeepOrphans m o) e is.orphans.later in
     let orphans : HaveOrphans (faced_later m next) (next.listed ∷ []) = (later.1, tt) in
@@ -34,6 +34,6 @@ returns-clause-any c = λ m parts is fits. by m parts is fits
     next_found m parts is None e fits = absurd fits
     next_found m parts is (Some next) e fits = later m parts next next.offered (λ fits. inl (returns-clause-next c m next parts is e fits)) fits
 
-    by : (m : Store) (parts : Parts) → IsStore m → Fits m parts → IsFoundBy (faces m) (tree_found parts)
+    by : (m : Store) (parts : Parts) → IsStore m → FitsStore m parts → IsFoundBy (faces m) (tree_found parts)
     by m parts is (inl fits) = inl (returns-clause-now c m parts is fits)
     by m parts is (inr fits) = inr (next_found m parts is m.next refl fits)

@@ -1,7 +1,7 @@
 use Rattle.std.proofs.Common.{◌∙◌, subst}
 use Rattle.ubifs_base.specs.RawOf.{raw_of}
 use Rattle.ubi_volume.specs.MemVolume.{state_of}
-use Rattle.whole_image.specs.Made.{IsRefused}
+use Rattle.whole_image.specs.Made.{IsImageRefused}
 use Rattle.whole_image.specs.declared.make_fault.MakeFault.{MakeFault}
 use Rattle.ubifs_tools.proofs.Imaging.{lebs_of, whole_is_left}
 use Rattle.ubifs_tools.proofs.image.image_bytes.Goals as goal
@@ -18,5 +18,5 @@ pub unreachable-requires : goal.unreachable-requires
 unreachable-requires c =
     let geo = raw_of c.args.geometry.now in
     let fault = c.in-Err-Crowded in
-    let P : MakeFault → Type 0 = λ f. IsRefused geo c.args.tree.now f in
+    let P : MakeFault → Type 0 = λ f. IsImageRefused geo c.args.tree.now f in
     c.a_covered_tree_has_room.ensures.crowded geo c.args.tree.now fault.field-0-0 fault.field-0-1 c.args.geometry.now.in_range c.requires.proper c.requires.covered (subst P fault.field-0-is fault.ensures.refused)

@@ -3,14 +3,14 @@ use Rattle.std.specs.Prelude.{◌≢◌}
 use Rattle.ubifs_base.specs.GeometryLaws.{min_io-mod}
 use Rattle.ubifs_base.specs.RawOf.{raw_of}
 use Rattle.media_sys.specs.SystemNode.{reference}
-use Rattle.bud_log.specs.Buds.{named}
+use Rattle.bud_log.specs.Buds.{named_also}
 use Rattle.bud_log.specs.KeepsOnLaws.{on_ok}
 use Rattle.bud_log.specs.Log.{IsLogLeb, next_leb}
 use Rattle.bud_log.specs.LogAnswers.{StartsWith}
-use Rattle.bud_log.specs.LogAt.{LogAt, room_of, lnum_at, offs_at}
+use Rattle.bud_log.specs.LogAt.{LogAt, padded_room_of, lnum_at, offs_at}
 use Rattle.bud_log.specs.LogCalls.{IsAdded, AddDuring}
 use Rattle.bud_log.specs.LogText.{IsNoLoneStart}
-use Rattle.bud_log.specs.Writing.{IsReady}
+use Rattle.bud_log.specs.Writing.{IsLogReady}
 use Rattle.bud_log.specs.declared.head_at.HeadAt.{HeadAt}
 use Rattle.bud_log.proofs.Opened.{added_ready}
 use Rattle.bud_log.proofs.Sections.{added_section}
@@ -36,18 +36,18 @@ returns-clause-done g c =
     let M : LogAt → Type 0 = λ z. z.geo.min_io % 8 ≡ 0 in
     let even = subst M c.self.view_is (min_io-mod (raw_of geo) geo.in_range) in
     let size : length bytes ≡ room = c.lay_reference.auto.bytes ∙ c.split_at_mut-bytes.ensures.front_len in
-    let is : room ≡ room_of at.geo.min_io 64 = c.room_for-room.ensures.room ∙ ap (λ (z : LogAt). room_of z.geo.min_io 64) c.self.view_is in
+    let is : room ≡ padded_room_of at.geo.min_io 64 = c.room_for-room.ensures.room ∙ ap (λ (z : LogAt). padded_room_of z.geo.min_io 64) c.self.view_is in
     let L : LogAt → Type 0 = λ z. room ≤ z.geo.leb_size in
     let short = subst L c.self.view_is (fits_leb (raw_of geo) room 64 geo.in_range (omega arith) c.room_for-room.ensures.high) in
     let there = fits_there here at room c.requires.here is short in
     let leb_size = c.requires.at.leb_size in
     let high = c.requires.at.here.high in
     let lebs = c.requires.at.lebs in
-    let B : Type 0 = (from : ℕ) (buds : List HeadAt) → IsLogLeb at.geo from → (here ≡ false → next_leb at.geo at.lnum ≢ from) → IsReady a at.geo from at.lnum at.offs number buds
-    → IsReady b at.geo from (lnum_at here at) (offs_at here at + room_of at.geo.min_io 64) (number + 1) (named buds c.args.node.now) in
+    let B : Type 0 = (from : ℕ) (buds : List HeadAt) → IsLogLeb at.geo from → (here ≡ false → next_leb at.geo at.lnum ≢ from) → IsLogReady a at.geo from at.lnum at.offs number buds
+    → IsLogReady b at.geo from (lnum_at here at) (offs_at here at + padded_room_of at.geo.min_io 64) (number + 1) (named_also buds c.args.node.now) in
     on_ok c.add.result (IsAdded here a b at bytes) B
     (λ w from buds f free h.
-    let Q : ℕ → Type 0 = λ n. IsReady b at.geo from (lnum_at here at) (offs_at here at + n) (number + 1) (named buds c.args.node.now) in
+    let Q : ℕ → Type 0 = λ n. IsLogReady b at.geo from (lnum_at here at) (offs_at here at + n) (number + 1) (named_also buds c.args.node.now) in
     subst Q (size ∙ is) (added_ready here a b at from number (number + 1) buds (reference c.args.node.now) [] bytes h f (λ e. sym c.requires.here ∙ e) free (omega arith) (g.met.V.Volume.mapped_now c.args.volume.now) w c.add.ensures.works c.lay_reference.ensures
     (g.met.V.Volume.leb_len c.args.volume.now at.lnum (omega (arith, high, lebs))) (omega (arith, there, size, leb_size)) (mod_through at.offs at.geo.min_io 8 c.requires.at.unit even)))
     c.add.ensures.done
@@ -65,14 +65,14 @@ returns-clause-section g c =
     let M : LogAt → Type 0 = λ z. z.geo.min_io % 8 ≡ 0 in
     let even = subst M c.self.view_is (min_io-mod (raw_of geo) geo.in_range) in
     let size : length bytes ≡ room = c.lay_reference.auto.bytes ∙ c.split_at_mut-bytes.ensures.front_len in
-    let is : room ≡ room_of at.geo.min_io 64 = c.room_for-room.ensures.room ∙ ap (λ (z : LogAt). room_of z.geo.min_io 64) c.self.view_is in
+    let is : room ≡ padded_room_of at.geo.min_io 64 = c.room_for-room.ensures.room ∙ ap (λ (z : LogAt). padded_room_of z.geo.min_io 64) c.self.view_is in
     let L : LogAt → Type 0 = λ z. room ≤ z.geo.leb_size in
     let short = subst L c.self.view_is (fits_leb (raw_of geo) room 64 geo.in_range (omega arith) c.room_for-room.ensures.high) in
     let there = fits_there here at room c.requires.here is short in
     let leb_size = c.requires.at.leb_size in
     let high = c.requires.at.here.high in
     let lebs = c.requires.at.lebs in
-    let B : Type 0 = (from known low : ℕ) (buds : List HeadAt) → IsLogLeb at.geo from → (here ≡ false → next_leb at.geo at.lnum ≢ from) → IsReady a at.geo from at.lnum at.offs known buds → StartsWith (a.holds from) from low
+    let B : Type 0 = (from known low : ℕ) (buds : List HeadAt) → IsLogLeb at.geo from → (here ≡ false → next_leb at.geo at.lnum ≢ from) → IsLogReady a at.geo from at.lnum at.offs known buds → StartsWith (a.holds from) from low
     → StartsWith (b.holds from) from low × IsNoLoneStart (b.holds (lnum_at here at)) (lnum_at here at) in
     on_ok c.add.result (IsAdded here a b at bytes) B
     (λ w from known low buds f free h starts.

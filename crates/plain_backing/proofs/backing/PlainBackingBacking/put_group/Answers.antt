@@ -2,7 +2,7 @@ use Rattle.std.proofs.Common.{List, [], ◌∷◌, length, ap, ◌∙◌}
 use Rattle.fs_model.specs.Journal.{base_head}
 use Rattle.ubifs_base.specs.RawOf.{raw_of}
 use Rattle.fs_model.specs.declared.change.Change.{Change}
-use Rattle.plain_backing.specs.PlainBacking.{counted, group_spent}
+use Rattle.plain_backing.specs.PlainBacking.{counted_call, group_spent}
 use Rattle.plain_backing.proofs.PlainGoing.{sure_after}
 use Rattle.plain_backing.proofs.Promises.{group_covers}
 use Rattle.plain_backing.specs.declared.numbers.Numbers.{Numbers}
@@ -51,7 +51,7 @@ returns-clause-sure c =
     let spent =
     c.spend_grant.ensures
     ∙ ap (λ (n : Numbers). group_spent n (length c.as_slice-nodes.result.now)) c.in_default.ensures.ok.0
-    ∙ ap (λ (xs : List Change). group_spent (counted self.numbers) (length xs)) c.as_slice-nodes.ensures in
+    ∙ ap (λ (xs : List Change). group_spent (counted_call self.numbers) (length xs)) c.as_slice-nodes.ensures in
     sure_after _ geo self.tree c.apply.new.self self.story.value c.count_all.new.story.value self.numbers c.spend_grant.new.numbers _ c.in_default.ensures.ok.1
     (ap (λ (n : Numbers). n.strike) spent) (ap (λ (n : Numbers). n.faults) spent)
     (group_covers geo self.geo.in_range self.tree c.apply.new.self c.args.group.now self.story.value c.count_all.new.story.value self.numbers c.spend_grant.new.numbers

@@ -1,6 +1,6 @@
 use Rattle.std.proofs.Common.{sym, ap, ◌∙◌, refl}
 use Rattle.plain_backing.specs.declared.numbers.Numbers.{Numbers}
-use Rattle.plain_backing.specs.Story.{is_idle}
+use Rattle.plain_backing.specs.Story.{is_story_idle}
 use Rattle.plain_backing.proofs.Told.{sync_told, sync_leaves, sync_kept, sync_heads}
 use Rattle.plain_backing.proofs.backing.PlainBackingBacking.sync.Goals as goal
 
@@ -19,4 +19,4 @@ pub invariant_of-self-2-clause-whole : goal.invariant_of-self-2-clause-whole
 invariant_of-self-2-clause-whole c = λ written. sync_kept c.args.self.now.story.value c.sync_story.new.story.value c.sync_story.ensures (c.args.self.now.whole c.in_ok-changing_call.ensures.ok.2)
 
 pub invariant_of-self-2-clause-idle : goal.invariant_of-self-2-clause-idle
-invariant_of-self-2-clause-idle c = λ none. ap is_idle c.sync_story.ensures ∙ c.args.self.now.idle (sym (ap (λ (n : Numbers). n.running) c.in_ok-changing_call.ensures.ok.0) ∙ none)
+invariant_of-self-2-clause-idle c = λ none. ap is_story_idle c.sync_story.ensures ∙ c.args.self.now.idle (sym (ap (λ (n : Numbers). n.running) c.in_ok-changing_call.ensures.ok.0) ∙ none)

@@ -3,12 +3,12 @@ use Rattle.std.proofs.lemmas.List.{length-map}
 use Rattle.fs_model.specs.declared.inode.Entry.{Entry}
 use Rattle.fs_model.specs.Files.{Tree}
 use Rattle.plain_backing.specs.declared.tree_cells.Named.{Named}
-use Rattle.plain_backing.specs.Cells.{seen}
+use Rattle.plain_backing.specs.Cells.{seen_cells}
 use Rattle.plain_backing.specs.TreeCells.{entry_of}
 use Rattle.plain_backing.proofs.tree.Tree.count_cells.Goals as goal
 
 -- no more is seen than there are cells
-seen_few : {K V : Type 0} (cells : List (K × Option V)) → length (seen cells) ≤ length cells
+seen_few : {K V : Type 0} (cells : List (K × Option V)) → length (seen_cells cells) ≤ length cells
 seen_few [] = omega arith
 seen_few ((key, None) ∷ cells) = let few = seen_few cells in omega (arith, few)
 seen_few ((key, Some value) ∷ cells) = let few = seen_few cells in omega (arith, few)
@@ -27,5 +27,5 @@ pub returns-clause-entries : goal.returns-clause-entries
 returns-clause-entries c =
     let few = seen_few c.self.inside.cells.entries.entries in
     let entry : (ℕ × List ℕ) × Named → (ℕ × List ℕ) × Entry = λ e. (e.0, entry_of e.0 e.1) in
-    let as_many = length-map (seen c.self.inside.cells.entries.entries) entry in
+    let as_many = length-map (seen_cells c.self.inside.cells.entries.entries) entry in
     subst (λ (t : Tree). length t.entries ≤ c.len-3.result) c.self.view_is (omega (arith, few, as_many, c.len-3.ensures))

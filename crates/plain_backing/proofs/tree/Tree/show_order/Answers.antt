@@ -3,7 +3,7 @@ use Rattle.std.specs.Map.{keys_of}
 use Rattle.std.specs.Ordering.{nat_cmp}
 use Rattle.fs_model.specs.Files.{Tree, name_cmp, pair_cmp}
 use Rattle.fs_model.specs.Proper.{ascends, IsInOrder}
-use Rattle.plain_backing.specs.Cells.{seen}
+use Rattle.plain_backing.specs.Cells.{seen_cells}
 use Rattle.plain_backing.proofs.Counted.{keys-entries_of}
 use Rattle.plain_backing.proofs.Opening.{sorted_ascends}
 use Rattle.plain_backing.proofs.Seen.{sorted-seen}
@@ -14,7 +14,7 @@ returns c =
     let cells = c.self.inside.cells in
     let P : Tree → Type 0 = λ tree. IsInOrder tree in
     subst P c.self.view_is (record {
-      inodes = sorted_ascends nat_cmp (keys_of (seen cells.inodes.entries)) (sorted-seen nat_cmp cells.inodes.entries c.len.ensures.ordered);
-      blocks = sorted_ascends pair_cmp (keys_of (seen cells.blocks.entries)) (sorted-seen pair_cmp cells.blocks.entries c.len-2.ensures.ordered);
-      entries = ap (ascends name_cmp) (keys-entries_of (seen cells.entries.entries)) ∙ sorted_ascends name_cmp (keys_of (seen cells.entries.entries)) (sorted-seen name_cmp cells.entries.entries c.len-3.ensures.ordered);
+      inodes = sorted_ascends nat_cmp (keys_of (seen_cells cells.inodes.entries)) (sorted-seen nat_cmp cells.inodes.entries c.len.ensures.ordered);
+      blocks = sorted_ascends pair_cmp (keys_of (seen_cells cells.blocks.entries)) (sorted-seen pair_cmp cells.blocks.entries c.len-2.ensures.ordered);
+      entries = ap (ascends name_cmp) (keys-entries_of (seen_cells cells.entries.entries)) ∙ sorted_ascends name_cmp (keys_of (seen_cells cells.entries.entries)) (sorted-seen name_cmp cells.entries.entries c.len-3.ensures.ordered);
     })

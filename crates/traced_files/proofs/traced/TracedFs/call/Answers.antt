@@ -8,7 +8,7 @@ use Rattle.vfs_ops.specs.FilesState.{FilesState}
 use Rattle.vfs_ops.specs.Fs.{files_state}
 use Rattle.credited_files.specs.Calls.{WasServed}
 use Rattle.traced_files.specs.Start.{IsHistoryFrom}
-use Rattle.traced_files.specs.States.{PassState, TracedState}
+use Rattle.traced_files.specs.States.{TracedPassState, TracedState}
 use Rattle.traced_files.specs.Traced.{IsTraced}
 use Rattle.traced_files.proofs.Entering.{entered}
 use Rattle.traced_files.proofs.Keeping.{AreStates, WasMade, traced_on}
@@ -25,7 +25,7 @@ invariant_of-pass g c = record {
   caller = c.enter.ensures.pass.1 ∙ (c.meet.ensures.pass.1 ∙ c.pass.invariant.caller);
   claimed = c.enter.ensures.pass.2 ∙ ap (λ (n : ℕ). n + 1) (c.meet.ensures.pass.2 ∙ c.pass.invariant.claimed);
   lines = ap (λ (x : ℕ × List TraceLine). lines_of x.0 x.1) (λ k. (sym (c.meet.ensures.pass.1 ∙ c.pass.invariant.caller) k, c.enter.ensures.seen k)) ∙ (c.enter.ensures.lines ∙ ap (λ (n : ℕ). n + 1) (c.meet.ensures.pass.2 ∙ c.pass.invariant.claimed));
-  stock = (c.call-op.ensures.stock.1 ∙ (c.requires.stock.1 ∙ sym (ap (λ (p : PassState). p.caller) c.pass.view_is)), c.call-op.ensures.stock.2);
+  stock = (c.call-op.ensures.stock.1 ∙ (c.requires.stock.1 ∙ sym (ap (λ (p : TracedPassState). p.caller) c.pass.view_is)), c.call-op.ensures.stock.2);
 }
 
 -- the lines before the call, and its line
@@ -68,7 +68,7 @@ traced g c =
       journal = g.met.B.Backing.journal c.self.inside.credited.fs.backing;
       journal_after = g.met.B.Backing.journal c.call-op.new.self.fs.backing;
     } in
-    let caller : c.args.stock.caller ≡ c.pass.inside.caller = c.requires.stock.1 ∙ sym (ap (λ (p : PassState). p.caller) c.pass.view_is) in
+    let caller : c.args.stock.caller ≡ c.pass.inside.caller = c.requires.stock.1 ∙ sym (ap (λ (p : TracedPassState). p.caller) c.pass.view_is) in
     let served : ℕ × ℕ → Type 0 = λ x. WasServed x.0 c.args.stock.held old new x.1 c.args.now c.args.op c.call-op.result.1 in
     let made : WasMade g.J.Site.word g.J.Site.start.callers c.args.stock.held (before g c) old new (line_of g c c.args.op c.call-op.result.1) c.twice-reply.result.0 c.enter.new.recorder = record {
       served = subst served (λ k. (c.self.invariant.2 k, caller k)) c.call-op.ensures.step.1;
@@ -91,9 +91,9 @@ invariant_of-self-2 g c = (
 
 pub returns : goal.returns
 returns g c =
-    let caller : c.pass.inside.caller ≡ c.args.pass.caller = ap (λ (p : PassState). p.caller) c.pass.view_is in
-    let new : PassState = record { word = c.enter.new.pass.word; pool = c.call-op.result.2.pool; caller = c.pass.inside.caller; made = c.pass.inside.made + 1; last = c.len-last.result; seen = c.enter.new.pass.known.seen } in
-    let begins : IsPrefix c.args.pass.seen (before g c) = subst (λ (x : List TraceLine × List TraceLine). IsPrefix x.0 x.1) (λ k. (ap (λ (p : PassState). p.seen) c.pass.view_is k, c.self.invariant.0.seen k)) c.meet.ensures.begins in
+    let caller : c.pass.inside.caller ≡ c.args.pass.caller = ap (λ (p : TracedPassState). p.caller) c.pass.view_is in
+    let new : TracedPassState = record { word = c.enter.new.pass.word; pool = c.call-op.result.2.pool; caller = c.pass.inside.caller; made = c.pass.inside.made + 1; last = c.len-last.result; seen = c.enter.new.pass.known.seen } in
+    let begins : IsPrefix c.args.pass.seen (before g c) = subst (λ (x : List TraceLine × List TraceLine). IsPrefix x.0 x.1) (λ k. (ap (λ (p : TracedPassState). p.seen) c.pass.view_is k, c.self.invariant.0.seen k)) c.meet.ensures.begins in
     let done : lines_of c.pass.inside.caller c.enter.new.pass.known.seen ≡ c.pass.inside.made + 1 =
     ap (λ (x : ℕ × List TraceLine). lines_of x.0 x.1) (λ k. (sym (c.meet.ensures.pass.1 ∙ c.pass.invariant.caller) k, c.enter.ensures.seen k)) ∙ (c.enter.ensures.lines ∙ ap (λ (n : ℕ). n + 1) (c.meet.ensures.pass.2 ∙ c.pass.invariant.claimed)) in
     let named : before g c ++ line_of g c c.args.op c.twice-reply.result.0 ∷ [] ≡ before g c ++ (record { caller = c.args.pass.caller; number = c.pass.inside.made + 1; now = c.args.now; op = c.args.op; reply = c.twice-reply.result.0 }) ∷ [] =
@@ -103,7 +103,7 @@ returns g c =
     let served : ℕ × FilesState × ℕ → Type 0 = λ x. WasServed x.0 c.args.stock.held x.1 (files_state c.call-op.new.self.fs) x.2 c.args.now c.args.op c.call-op.result.1 in
     record {
       called = inr (
-        entered g.J.Site.start (files_state c.call-op.new.self.fs) c.args.pass new c.args.now c.args.op c.twice-reply.result.0 (before g c) (c.enter.ensures.pass.0 ∙ (c.requires.word.0 ∙ sym c.requires.pass.0)) (c.call-op.ensures.stock.0 ∙ (c.requires.word.1 ∙ sym c.requires.pass.1)) caller (ap (λ (p : PassState). p.made + 1) c.pass.view_is) last (seen g c ∙ named) begins done legal,
+        entered g.J.Site.start (files_state c.call-op.new.self.fs) c.args.pass new c.args.now c.args.op c.twice-reply.result.0 (before g c) (c.enter.ensures.pass.0 ∙ (c.requires.word.0 ∙ sym c.requires.pass.0)) (c.call-op.ensures.stock.0 ∙ (c.requires.word.1 ∙ sym c.requires.pass.1)) caller (ap (λ (p : TracedPassState). p.made + 1) c.pass.view_is) last (seen g c ∙ named) begins done legal,
         kept g c ∙ sym (seen g c),
         record {
           answer = c.call-op.result.1;
