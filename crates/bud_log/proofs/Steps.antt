@@ -1,12 +1,13 @@
 -- Steps round the ring.
-use Rattle.std.proofs.Common.{◌≡◌, ◌⊎◌, inl, inr, ℕ, ◌+◌, ◌-◌, ◌<◌, ◌≤◌, ◌==◌, Bool, true, false, refl, sym, ◌∙◌, subst, arith}
+use Rattle.std.proofs.Common.{◌≡◌, inl, inr, ℕ, ◌+◌, ◌-◌, ◌<◌, ◌≤◌, ◌==◌, Bool, true, false, refl, ap, sym, ◌∙◌, subst, arith}
 use Rattle.std.specs.Prelude.{◌≢◌}
 use Rattle.std.proofs.lemmas.Bool.{cases_eq, cases_Bool, eq-eqb, ne_eqb, cases_lt}
 use Rattle.ubifs_base.specs.declared.raw_geometry.RawGeometry.{RawGeometry}
 use Rattle.bud_log.specs.Log.{IsLogLeb, next_leb}
 use Rattle.bud_log.specs.LogAt.{LogAt, IsLogStart, steps_to, used_lebs, most_lebs, IsWithin, has_room, IsLogFull, lnum_at, ending, starting, without_old_sections}
+use Rattle.bud_log.specs.LogLaws.{next_in}
 use Rattle.bud_log.specs.RingRuns.{lebs_left_of, left_below, left_above}
-use Rattle.bud_log.specs.RingSteps.{steps_are, next_is}
+use Rattle.bud_log.specs.RingSteps.{steps_are, next_is, steps_more}
 
 -- one step more
 pub steps_next : (geo : RawGeometry) (from lnum : ℕ) → IsLogLeb geo from → IsLogLeb geo lnum → steps_to geo from lnum + 1 < geo.log_lebs → steps_to geo from (next_leb geo lnum) ≡ steps_to geo from lnum + 1
@@ -70,215 +71,6 @@ same_steps geo from a b f g h e =
       | inr (p, s) ↦ elim (steps_are geo from b) [ inl (q, t) ↦ absurd (omega (arith, f1, f2, a1, a2, b1, b2, p, s, q, t, e)) | inr (q, t) ↦ omega (arith, f1, f2, a1, a2, b1, b2, p, s, q, t, e) ]
     ]
 
-left_is : (geo : RawGeometry) (from lnum : ℕ) → ((lnum ≤ from) × (lebs_left_of geo from lnum ≡ from - lnum)) ⊎ ((from < lnum) × (lebs_left_of geo from lnum ≡ (from + (3 + geo.log_lebs)) - (lnum + 3)))
-left_is geo from lnum = elim (cases_lt from lnum) [
-  | inl above ↦ inr (above, left_above geo from lnum above)
-  | inr below ↦ inl (below, left_below geo from lnum below)
-]
-
--- a LEB before a section isn't reached from there to a LEB of it
-pub before_left : (geo : RawGeometry) (first section lnum k : ℕ) → IsLogLeb geo first → IsLogLeb geo section → IsLogLeb geo lnum → IsLogLeb geo k → steps_to geo first k < steps_to geo first section → steps_to geo first section ≤ steps_to geo first lnum
-    → lebs_left_of geo section k ≤ lebs_left_of geo section (next_leb geo lnum)
-before_left geo first section lnum k f s l h before way =
-    let f1 = f.low in
-    let f2 = f.high in
-    let s1 = s.low in
-    let s2 = s.high in
-    let l1 = l.low in
-    let l2 = l.high in
-    let k1 = h.low in
-    let k2 = h.high in
-    elim (steps_are geo first k) [
-      | inl (p0, q0) ↦ elim (steps_are geo first section) [
-        | inl (p1, q1) ↦ elim (steps_are geo first lnum) [
-          | inl (p2, q2) ↦ elim (next_is geo lnum) [
-            | inl (p3, q3) ↦ elim (left_is geo section k) [
-              | inl (p4, q4) ↦ elim (left_is geo section (next_leb geo lnum)) [
-                | inl (p5, q5) ↦ omega (arith, f1, f2, s1, s2, l1, l2, k1, k2, before, way, p0, q0, p1, q1, p2, q2, p3, q3, p4, q4, p5, q5)
-                | inr (p5, q5) ↦ omega (arith, f1, f2, s1, s2, l1, l2, k1, k2, before, way, p0, q0, p1, q1, p2, q2, p3, q3, p4, q4, p5, q5)
-              ]
-              | inr (p4, q4) ↦ elim (left_is geo section (next_leb geo lnum)) [
-                | inl (p5, q5) ↦ omega (arith, f1, f2, s1, s2, l1, l2, k1, k2, before, way, p0, q0, p1, q1, p2, q2, p3, q3, p4, q4, p5, q5)
-                | inr (p5, q5) ↦ omega (arith, f1, f2, s1, s2, l1, l2, k1, k2, before, way, p0, q0, p1, q1, p2, q2, p3, q3, p4, q4, p5, q5)
-              ]
-            ]
-            | inr (p3, q3) ↦ elim (left_is geo section k) [
-              | inl (p4, q4) ↦ elim (left_is geo section (next_leb geo lnum)) [
-                | inl (p5, q5) ↦ omega (arith, f1, f2, s1, s2, l1, l2, k1, k2, before, way, p0, q0, p1, q1, p2, q2, p3, q3, p4, q4, p5, q5)
-                | inr (p5, q5) ↦ omega (arith, f1, f2, s1, s2, l1, l2, k1, k2, before, way, p0, q0, p1, q1, p2, q2, p3, q3, p4, q4, p5, q5)
-              ]
-              | inr (p4, q4) ↦ elim (left_is geo section (next_leb geo lnum)) [
-                | inl (p5, q5) ↦ omega (arith, f1, f2, s1, s2, l1, l2, k1, k2, before, way, p0, q0, p1, q1, p2, q2, p3, q3, p4, q4, p5, q5)
-                | inr (p5, q5) ↦ omega (arith, f1, f2, s1, s2, l1, l2, k1, k2, before, way, p0, q0, p1, q1, p2, q2, p3, q3, p4, q4, p5, q5)
-              ]
-            ]
-          ]
-          | inr (p2, q2) ↦ elim (next_is geo lnum) [
-            | inl (p3, q3) ↦ elim (left_is geo section k) [
-              | inl (p4, q4) ↦ elim (left_is geo section (next_leb geo lnum)) [
-                | inl (p5, q5) ↦ omega (arith, f1, f2, s1, s2, l1, l2, k1, k2, before, way, p0, q0, p1, q1, p2, q2, p3, q3, p4, q4, p5, q5)
-                | inr (p5, q5) ↦ omega (arith, f1, f2, s1, s2, l1, l2, k1, k2, before, way, p0, q0, p1, q1, p2, q2, p3, q3, p4, q4, p5, q5)
-              ]
-              | inr (p4, q4) ↦ elim (left_is geo section (next_leb geo lnum)) [
-                | inl (p5, q5) ↦ omega (arith, f1, f2, s1, s2, l1, l2, k1, k2, before, way, p0, q0, p1, q1, p2, q2, p3, q3, p4, q4, p5, q5)
-                | inr (p5, q5) ↦ omega (arith, f1, f2, s1, s2, l1, l2, k1, k2, before, way, p0, q0, p1, q1, p2, q2, p3, q3, p4, q4, p5, q5)
-              ]
-            ]
-            | inr (p3, q3) ↦ elim (left_is geo section k) [
-              | inl (p4, q4) ↦ elim (left_is geo section (next_leb geo lnum)) [
-                | inl (p5, q5) ↦ omega (arith, f1, f2, s1, s2, l1, l2, k1, k2, before, way, p0, q0, p1, q1, p2, q2, p3, q3, p4, q4, p5, q5)
-                | inr (p5, q5) ↦ omega (arith, f1, f2, s1, s2, l1, l2, k1, k2, before, way, p0, q0, p1, q1, p2, q2, p3, q3, p4, q4, p5, q5)
-              ]
-              | inr (p4, q4) ↦ elim (left_is geo section (next_leb geo lnum)) [
-                | inl (p5, q5) ↦ omega (arith, f1, f2, s1, s2, l1, l2, k1, k2, before, way, p0, q0, p1, q1, p2, q2, p3, q3, p4, q4, p5, q5)
-                | inr (p5, q5) ↦ omega (arith, f1, f2, s1, s2, l1, l2, k1, k2, before, way, p0, q0, p1, q1, p2, q2, p3, q3, p4, q4, p5, q5)
-              ]
-            ]
-          ]
-        ]
-        | inr (p1, q1) ↦ elim (steps_are geo first lnum) [
-          | inl (p2, q2) ↦ elim (next_is geo lnum) [
-            | inl (p3, q3) ↦ elim (left_is geo section k) [
-              | inl (p4, q4) ↦ elim (left_is geo section (next_leb geo lnum)) [
-                | inl (p5, q5) ↦ omega (arith, f1, f2, s1, s2, l1, l2, k1, k2, before, way, p0, q0, p1, q1, p2, q2, p3, q3, p4, q4, p5, q5)
-                | inr (p5, q5) ↦ omega (arith, f1, f2, s1, s2, l1, l2, k1, k2, before, way, p0, q0, p1, q1, p2, q2, p3, q3, p4, q4, p5, q5)
-              ]
-              | inr (p4, q4) ↦ elim (left_is geo section (next_leb geo lnum)) [
-                | inl (p5, q5) ↦ omega (arith, f1, f2, s1, s2, l1, l2, k1, k2, before, way, p0, q0, p1, q1, p2, q2, p3, q3, p4, q4, p5, q5)
-                | inr (p5, q5) ↦ omega (arith, f1, f2, s1, s2, l1, l2, k1, k2, before, way, p0, q0, p1, q1, p2, q2, p3, q3, p4, q4, p5, q5)
-              ]
-            ]
-            | inr (p3, q3) ↦ elim (left_is geo section k) [
-              | inl (p4, q4) ↦ elim (left_is geo section (next_leb geo lnum)) [
-                | inl (p5, q5) ↦ omega (arith, f1, f2, s1, s2, l1, l2, k1, k2, before, way, p0, q0, p1, q1, p2, q2, p3, q3, p4, q4, p5, q5)
-                | inr (p5, q5) ↦ omega (arith, f1, f2, s1, s2, l1, l2, k1, k2, before, way, p0, q0, p1, q1, p2, q2, p3, q3, p4, q4, p5, q5)
-              ]
-              | inr (p4, q4) ↦ elim (left_is geo section (next_leb geo lnum)) [
-                | inl (p5, q5) ↦ omega (arith, f1, f2, s1, s2, l1, l2, k1, k2, before, way, p0, q0, p1, q1, p2, q2, p3, q3, p4, q4, p5, q5)
-                | inr (p5, q5) ↦ omega (arith, f1, f2, s1, s2, l1, l2, k1, k2, before, way, p0, q0, p1, q1, p2, q2, p3, q3, p4, q4, p5, q5)
-              ]
-            ]
-          ]
-          | inr (p2, q2) ↦ elim (next_is geo lnum) [
-            | inl (p3, q3) ↦ elim (left_is geo section k) [
-              | inl (p4, q4) ↦ elim (left_is geo section (next_leb geo lnum)) [
-                | inl (p5, q5) ↦ omega (arith, f1, f2, s1, s2, l1, l2, k1, k2, before, way, p0, q0, p1, q1, p2, q2, p3, q3, p4, q4, p5, q5)
-                | inr (p5, q5) ↦ omega (arith, f1, f2, s1, s2, l1, l2, k1, k2, before, way, p0, q0, p1, q1, p2, q2, p3, q3, p4, q4, p5, q5)
-              ]
-              | inr (p4, q4) ↦ elim (left_is geo section (next_leb geo lnum)) [
-                | inl (p5, q5) ↦ omega (arith, f1, f2, s1, s2, l1, l2, k1, k2, before, way, p0, q0, p1, q1, p2, q2, p3, q3, p4, q4, p5, q5)
-                | inr (p5, q5) ↦ omega (arith, f1, f2, s1, s2, l1, l2, k1, k2, before, way, p0, q0, p1, q1, p2, q2, p3, q3, p4, q4, p5, q5)
-              ]
-            ]
-            | inr (p3, q3) ↦ elim (left_is geo section k) [
-              | inl (p4, q4) ↦ elim (left_is geo section (next_leb geo lnum)) [
-                | inl (p5, q5) ↦ omega (arith, f1, f2, s1, s2, l1, l2, k1, k2, before, way, p0, q0, p1, q1, p2, q2, p3, q3, p4, q4, p5, q5)
-                | inr (p5, q5) ↦ omega (arith, f1, f2, s1, s2, l1, l2, k1, k2, before, way, p0, q0, p1, q1, p2, q2, p3, q3, p4, q4, p5, q5)
-              ]
-              | inr (p4, q4) ↦ elim (left_is geo section (next_leb geo lnum)) [
-                | inl (p5, q5) ↦ omega (arith, f1, f2, s1, s2, l1, l2, k1, k2, before, way, p0, q0, p1, q1, p2, q2, p3, q3, p4, q4, p5, q5)
-                | inr (p5, q5) ↦ omega (arith, f1, f2, s1, s2, l1, l2, k1, k2, before, way, p0, q0, p1, q1, p2, q2, p3, q3, p4, q4, p5, q5)
-              ]
-            ]
-          ]
-        ]
-      ]
-      | inr (p0, q0) ↦ elim (steps_are geo first section) [
-        | inl (p1, q1) ↦ elim (steps_are geo first lnum) [
-          | inl (p2, q2) ↦ elim (next_is geo lnum) [
-            | inl (p3, q3) ↦ elim (left_is geo section k) [
-              | inl (p4, q4) ↦ elim (left_is geo section (next_leb geo lnum)) [
-                | inl (p5, q5) ↦ omega (arith, f1, f2, s1, s2, l1, l2, k1, k2, before, way, p0, q0, p1, q1, p2, q2, p3, q3, p4, q4, p5, q5)
-                | inr (p5, q5) ↦ omega (arith, f1, f2, s1, s2, l1, l2, k1, k2, before, way, p0, q0, p1, q1, p2, q2, p3, q3, p4, q4, p5, q5)
-              ]
-              | inr (p4, q4) ↦ elim (left_is geo section (next_leb geo lnum)) [
-                | inl (p5, q5) ↦ omega (arith, f1, f2, s1, s2, l1, l2, k1, k2, before, way, p0, q0, p1, q1, p2, q2, p3, q3, p4, q4, p5, q5)
-                | inr (p5, q5) ↦ omega (arith, f1, f2, s1, s2, l1, l2, k1, k2, before, way, p0, q0, p1, q1, p2, q2, p3, q3, p4, q4, p5, q5)
-              ]
-            ]
-            | inr (p3, q3) ↦ elim (left_is geo section k) [
-              | inl (p4, q4) ↦ elim (left_is geo section (next_leb geo lnum)) [
-                | inl (p5, q5) ↦ omega (arith, f1, f2, s1, s2, l1, l2, k1, k2, before, way, p0, q0, p1, q1, p2, q2, p3, q3, p4, q4, p5, q5)
-                | inr (p5, q5) ↦ omega (arith, f1, f2, s1, s2, l1, l2, k1, k2, before, way, p0, q0, p1, q1, p2, q2, p3, q3, p4, q4, p5, q5)
-              ]
-              | inr (p4, q4) ↦ elim (left_is geo section (next_leb geo lnum)) [
-                | inl (p5, q5) ↦ omega (arith, f1, f2, s1, s2, l1, l2, k1, k2, before, way, p0, q0, p1, q1, p2, q2, p3, q3, p4, q4, p5, q5)
-                | inr (p5, q5) ↦ omega (arith, f1, f2, s1, s2, l1, l2, k1, k2, before, way, p0, q0, p1, q1, p2, q2, p3, q3, p4, q4, p5, q5)
-              ]
-            ]
-          ]
-          | inr (p2, q2) ↦ elim (next_is geo lnum) [
-            | inl (p3, q3) ↦ elim (left_is geo section k) [
-              | inl (p4, q4) ↦ elim (left_is geo section (next_leb geo lnum)) [
-                | inl (p5, q5) ↦ omega (arith, f1, f2, s1, s2, l1, l2, k1, k2, before, way, p0, q0, p1, q1, p2, q2, p3, q3, p4, q4, p5, q5)
-                | inr (p5, q5) ↦ omega (arith, f1, f2, s1, s2, l1, l2, k1, k2, before, way, p0, q0, p1, q1, p2, q2, p3, q3, p4, q4, p5, q5)
-              ]
-              | inr (p4, q4) ↦ elim (left_is geo section (next_leb geo lnum)) [
-                | inl (p5, q5) ↦ omega (arith, f1, f2, s1, s2, l1, l2, k1, k2, before, way, p0, q0, p1, q1, p2, q2, p3, q3, p4, q4, p5, q5)
-                | inr (p5, q5) ↦ omega (arith, f1, f2, s1, s2, l1, l2, k1, k2, before, way, p0, q0, p1, q1, p2, q2, p3, q3, p4, q4, p5, q5)
-              ]
-            ]
-            | inr (p3, q3) ↦ elim (left_is geo section k) [
-              | inl (p4, q4) ↦ elim (left_is geo section (next_leb geo lnum)) [
-                | inl (p5, q5) ↦ omega (arith, f1, f2, s1, s2, l1, l2, k1, k2, before, way, p0, q0, p1, q1, p2, q2, p3, q3, p4, q4, p5, q5)
-                | inr (p5, q5) ↦ omega (arith, f1, f2, s1, s2, l1, l2, k1, k2, before, way, p0, q0, p1, q1, p2, q2, p3, q3, p4, q4, p5, q5)
-              ]
-              | inr (p4, q4) ↦ elim (left_is geo section (next_leb geo lnum)) [
-                | inl (p5, q5) ↦ omega (arith, f1, f2, s1, s2, l1, l2, k1, k2, before, way, p0, q0, p1, q1, p2, q2, p3, q3, p4, q4, p5, q5)
-                | inr (p5, q5) ↦ omega (arith, f1, f2, s1, s2, l1, l2, k1, k2, before, way, p0, q0, p1, q1, p2, q2, p3, q3, p4, q4, p5, q5)
-              ]
-            ]
-          ]
-        ]
-        | inr (p1, q1) ↦ elim (steps_are geo first lnum) [
-          | inl (p2, q2) ↦ elim (next_is geo lnum) [
-            | inl (p3, q3) ↦ elim (left_is geo section k) [
-              | inl (p4, q4) ↦ elim (left_is geo section (next_leb geo lnum)) [
-                | inl (p5, q5) ↦ omega (arith, f1, f2, s1, s2, l1, l2, k1, k2, before, way, p0, q0, p1, q1, p2, q2, p3, q3, p4, q4, p5, q5)
-                | inr (p5, q5) ↦ omega (arith, f1, f2, s1, s2, l1, l2, k1, k2, before, way, p0, q0, p1, q1, p2, q2, p3, q3, p4, q4, p5, q5)
-              ]
-              | inr (p4, q4) ↦ elim (left_is geo section (next_leb geo lnum)) [
-                | inl (p5, q5) ↦ omega (arith, f1, f2, s1, s2, l1, l2, k1, k2, before, way, p0, q0, p1, q1, p2, q2, p3, q3, p4, q4, p5, q5)
-                | inr (p5, q5) ↦ omega (arith, f1, f2, s1, s2, l1, l2, k1, k2, before, way, p0, q0, p1, q1, p2, q2, p3, q3, p4, q4, p5, q5)
-              ]
-            ]
-            | inr (p3, q3) ↦ elim (left_is geo section k) [
-              | inl (p4, q4) ↦ elim (left_is geo section (next_leb geo lnum)) [
-                | inl (p5, q5) ↦ omega (arith, f1, f2, s1, s2, l1, l2, k1, k2, before, way, p0, q0, p1, q1, p2, q2, p3, q3, p4, q4, p5, q5)
-                | inr (p5, q5) ↦ omega (arith, f1, f2, s1, s2, l1, l2, k1, k2, before, way, p0, q0, p1, q1, p2, q2, p3, q3, p4, q4, p5, q5)
-              ]
-              | inr (p4, q4) ↦ elim (left_is geo section (next_leb geo lnum)) [
-                | inl (p5, q5) ↦ omega (arith, f1, f2, s1, s2, l1, l2, k1, k2, before, way, p0, q0, p1, q1, p2, q2, p3, q3, p4, q4, p5, q5)
-                | inr (p5, q5) ↦ omega (arith, f1, f2, s1, s2, l1, l2, k1, k2, before, way, p0, q0, p1, q1, p2, q2, p3, q3, p4, q4, p5, q5)
-              ]
-            ]
-          ]
-          | inr (p2, q2) ↦ elim (next_is geo lnum) [
-            | inl (p3, q3) ↦ elim (left_is geo section k) [
-              | inl (p4, q4) ↦ elim (left_is geo section (next_leb geo lnum)) [
-                | inl (p5, q5) ↦ omega (arith, f1, f2, s1, s2, l1, l2, k1, k2, before, way, p0, q0, p1, q1, p2, q2, p3, q3, p4, q4, p5, q5)
-                | inr (p5, q5) ↦ omega (arith, f1, f2, s1, s2, l1, l2, k1, k2, before, way, p0, q0, p1, q1, p2, q2, p3, q3, p4, q4, p5, q5)
-              ]
-              | inr (p4, q4) ↦ elim (left_is geo section (next_leb geo lnum)) [
-                | inl (p5, q5) ↦ omega (arith, f1, f2, s1, s2, l1, l2, k1, k2, before, way, p0, q0, p1, q1, p2, q2, p3, q3, p4, q4, p5, q5)
-                | inr (p5, q5) ↦ omega (arith, f1, f2, s1, s2, l1, l2, k1, k2, before, way, p0, q0, p1, q1, p2, q2, p3, q3, p4, q4, p5, q5)
-              ]
-            ]
-            | inr (p3, q3) ↦ elim (left_is geo section k) [
-              | inl (p4, q4) ↦ elim (left_is geo section (next_leb geo lnum)) [
-                | inl (p5, q5) ↦ omega (arith, f1, f2, s1, s2, l1, l2, k1, k2, before, way, p0, q0, p1, q1, p2, q2, p3, q3, p4, q4, p5, q5)
-                | inr (p5, q5) ↦ omega (arith, f1, f2, s1, s2, l1, l2, k1, k2, before, way, p0, q0, p1, q1, p2, q2, p3, q3, p4, q4, p5, q5)
-              ]
-              | inr (p4, q4) ↦ elim (left_is geo section (next_leb geo lnum)) [
-                | inl (p5, q5) ↦ omega (arith, f1, f2, s1, s2, l1, l2, k1, k2, before, way, p0, q0, p1, q1, p2, q2, p3, q3, p4, q4, p5, q5)
-                | inr (p5, q5) ↦ omega (arith, f1, f2, s1, s2, l1, l2, k1, k2, before, way, p0, q0, p1, q1, p2, q2, p3, q3, p4, q4, p5, q5)
-              ]
-            ]
-          ]
-        ]
-      ]
-    ]
-
 -- on the way to a LEB
 pub steps_split : (geo : RawGeometry) (first section lnum : ℕ) → IsLogLeb geo first → IsLogLeb geo section → IsLogLeb geo lnum → steps_to geo first section ≤ steps_to geo first lnum
     → steps_to geo first section + steps_to geo section lnum ≡ steps_to geo first lnum
@@ -298,6 +90,59 @@ steps_split geo first section lnum f s l way =
         | inl (b, y) ↦ elim (steps_are geo section lnum) [ inl (c, z) ↦ omega (arith, f1, f2, s1, s2, l1, l2, a, x, b, y, c, z, way) | inr (c, z) ↦ absurd (omega (arith, f1, f2, s1, s2, l1, l2, a, x, b, y, c, z, way)) ]
         | inr (b, y) ↦ elim (steps_are geo section lnum) [ inl (c, z) ↦ absurd (omega (arith, f1, f2, s1, s2, l1, l2, a, x, b, y, c, z, way)) | inr (c, z) ↦ omega (arith, f1, f2, s1, s2, l1, l2, a, x, b, y, c, z, way) ]
       ]
+    ]
+
+-- from a LEB behind another on, round the ring to that one
+steps_round : (geo : RawGeometry) (first from lnum : ℕ) → IsLogLeb geo first → IsLogLeb geo from → IsLogLeb geo lnum → steps_to geo first lnum < steps_to geo first from
+    → steps_to geo first from + steps_to geo from lnum ≡ steps_to geo first lnum + geo.log_lebs
+steps_round geo first from lnum f g l behind =
+    let f1 = f.low in
+    let f2 = f.high in
+    let g1 = g.low in
+    let g2 = g.high in
+    let l1 = l.low in
+    let l2 = l.high in
+    elim (steps_are geo first from) [
+      | inl (a, x) ↦ elim (steps_are geo first lnum) [
+        | inl (b, y) ↦ elim (steps_are geo from lnum) [ inl (c, z) ↦ omega (arith, f1, f2, g1, g2, l1, l2, a, x, b, y, c, z, behind) | inr (c, z) ↦ absurd (omega (arith, f1, f2, g1, g2, l1, l2, a, x, b, y, c, z, behind)) ]
+        | inr (b, y) ↦ elim (steps_are geo from lnum) [ inl (c, z) ↦ absurd (omega (arith, f1, f2, g1, g2, l1, l2, a, x, b, y, c, z, behind)) | inr (c, z) ↦ omega (arith, f1, f2, g1, g2, l1, l2, a, x, b, y, c, z, behind) ]
+      ]
+      | inr (a, x) ↦ elim (steps_are geo first lnum) [
+        | inl (b, y) ↦ absurd (omega (arith, f1, f2, g1, g2, l1, l2, a, x, b, y, behind))
+        | inr (b, y) ↦ elim (steps_are geo from lnum) [ inl (c, z) ↦ omega (arith, f1, f2, g1, g2, l1, l2, a, x, b, y, c, z, behind) | inr (c, z) ↦ absurd (omega (arith, f1, f2, g1, g2, l1, l2, a, x, b, y, c, z, behind)) ]
+      ]
+    ]
+
+-- how many LEBs lie before a LEB is how many steps lead to it
+left_steps : (geo : RawGeometry) (from lnum : ℕ) → lebs_left_of geo from lnum ≡ steps_to geo lnum from
+left_steps geo from lnum = elim (cases_lt from lnum) [
+  | inl above ↦ elim (steps_are geo lnum from) [
+    | inl (p, s) ↦ let l = left_above geo from lnum above in omega (arith, p, s, l)
+    | inr (p, s) ↦ absurd (omega (arith, above, p))
+  ]
+  | inr below ↦ elim (steps_are geo lnum from) [
+    | inl (p, s) ↦ absurd (omega (arith, below, p))
+    | inr (p, s) ↦ let l = left_below geo from lnum below in omega (arith, p, s, l)
+  ]
+]
+
+-- a LEB before a section isn't reached from there to a LEB of it
+pub before_left : (geo : RawGeometry) (first section lnum k : ℕ) → IsLogLeb geo first → IsLogLeb geo section → IsLogLeb geo lnum → IsLogLeb geo k → steps_to geo first k < steps_to geo first section → steps_to geo first section ≤ steps_to geo first lnum
+    → lebs_left_of geo section k ≤ lebs_left_of geo section (next_leb geo lnum)
+before_left geo first section lnum k f s l h before way =
+    let next = next_leb geo lnum in
+    let near = steps_split geo first k section f h s (omega (arith, before)) in
+    let left = left_steps geo section k in
+    let last = left_steps geo section next in
+    elim (cases_eq next first) [
+      | inl same ↦
+          let far : steps_to geo next section ≡ steps_to geo first section = ap (λ (n : ℕ). steps_to geo n section) same in
+          omega (arith, near, left, last, far)
+      | inr ne ↦
+          let more = steps_more geo first lnum f l ne in
+          let small = steps_small geo first lnum f l in
+          let far = steps_round geo first next section f (next_in geo lnum l) s (omega (arith, way, more)) in
+          omega (arith, near, left, last, more, small, far)
     ]
 
 -- No more LEBs are in use than may be.

@@ -29,8 +29,8 @@ pub(crate) fn name_buds(alloc: Global, leb: &[u8], buds: &mut Vec<HeadAt>) -> Re
     Ok(())
 }
 
-// The reference that was found in a LEB.
-fn reference_at(alloc: Global, leb: &[u8], found: Found) -> Option<RefNode>
+/// The reference that was found in a LEB.
+pub fn reference_at(alloc: Global, leb: &[u8], found: Found) -> Option<RefNode>
     requires room { found.offs + found.len ≤ length leb.now }
     requires there { (node : AReference) × IsReferenceAt leb.now found node }
     ensures some { IfSome result (IsReferenceAt leb.now found) }

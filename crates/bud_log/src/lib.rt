@@ -29,6 +29,7 @@ mod reading;
 mod ring;
 mod seen;
 
+pub use crate::buds::reference_at;
 pub use crate::commits::commit_of;
 pub use crate::head_at::HeadAt;
 pub use crate::laws::one_log;
@@ -37,3 +38,4 @@ pub use crate::log_fault::LogFault;
 pub use crate::log_read::LogRead;
 pub use crate::reading::read_log;
 pub use crate::ring::next_leb;
+pub use crate::seen::{Seen, is_later, see, start_of};

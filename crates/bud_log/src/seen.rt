@@ -11,7 +11,7 @@ use ubifs_base::NodeType;
 /// The node with which the LEB begins, whether its text is a commit start alone, the greatest sequence number of its nodes or
 /// 0, and where and how the text ends.
 #[derive(Clone, Copy, Debug, PartialEq, Eq)]
-pub(crate) struct Seen {
+pub struct Seen {
     pub begins: Option<Found>,
     pub alone: bool,
     pub sqnum: u64,
@@ -20,7 +20,7 @@ pub(crate) struct Seen {
 }
 
 /// Goes over the text of a LEB.
-pub(crate) fn see(leb: &[u8]) -> Seen
+pub fn see(leb: &[u8]) -> Seen
     requires { length leb.now < 2 ^ 32 }
     ensures { IsSeen leb.now result }
 {
@@ -82,7 +82,7 @@ fn at_start(first: Option<Found>) -> Option<Found>
 }
 
 /// The sequence number of the commit start with which a LEB begins.
-pub(crate) fn start_of(begins: Option<Found>) -> Option<u64>
+pub fn start_of(begins: Option<Found>) -> Option<u64>
     ensures { result ≡ start_number begins }
 {
     let found = begins?;
@@ -93,7 +93,7 @@ pub(crate) fn start_of(begins: Option<Found>) -> Option<u64>
 }
 
 /// Whether a LEB begins with a node of a greater sequence number.
-pub(crate) fn is_later(number: u64, begins: Option<Found>) -> bool
+pub fn is_later(number: u64, begins: Option<Found>) -> bool
     ensures { result ≡ is_later_than number begins }
 {
     let Some(found) = begins else {

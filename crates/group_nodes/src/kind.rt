@@ -36,8 +36,8 @@ pub(crate) fn entry_type(kind: Kind) -> u8
     }
 }
 
-// The kind that a mode says.
-pub(crate) fn kind_of_mode(mode: u32) -> Option<Kind>
+/// The kind that a mode says.
+pub fn kind_of_mode(mode: u32) -> Option<Kind>
     ensures { result ≡ kind_of_bits (bits_of mode) }
 {
     kind_of_bits(mode / 0o10000 % 0o20 * 0o10000)
@@ -58,8 +58,8 @@ fn kind_of_bits(bits: u32) -> Option<Kind>
     }
 }
 
-// The kind that an entry's type says.
-pub(crate) fn kind_of_type(code: u8) -> Option<Kind>
+/// The kind that an entry's type says.
+pub fn kind_of_type(code: u8) -> Option<Kind>
     ensures { result ≡ kind_of_type code }
 {
     match code {

@@ -15,6 +15,7 @@ mod node;
 mod read;
 mod write;
 
+pub use crate::kind::{kind_of_mode, kind_of_type};
 pub use crate::laws::{
     a_group_is_read_back, changes_are_carried, nodes_have_places, texts_have_length,
 };

@@ -6,7 +6,7 @@ ghost use Rattle.ubi_volume.specs.Volume.{Keeps, SameShape};
 ghost use Rattle.ubi_volume.specs.Faults.{HasAreaCause, StaysSureArea};
 ghost use Rattle.media_sys.specs.SystemNode.{IsSuper};
 ghost use Rattle.media_sys.specs.declared.super_node.Super.{Super as ASuper};
-ghost use Rattle.sound_image.specs.Breaches.{IsFirstBreach, super_field_of};
+ghost use Rattle.sound_image.specs.Breaches.{IsFirstBreach};
 ghost use Rattle.sound_image.specs.Superblock.{HasSuperblock};
 ghost use Rattle.image_check.specs.Firsts.{IsWrongSuper};
 ghost use Rattle.image_check.specs.Told.{HasCheckCause, StaysSureCheck, TellsBreach};
@@ -14,10 +14,10 @@ ghost use Rattle.image_check.specs.Told.{HasCheckCause, StaysSureCheck, TellsBre
 use crate::fault::CheckFault;
 use crate::told::told;
 use media_sys::{Super, SuperField};
-use sound_image::Breach;
+use sound_image::{Breach, super_field};
 use std::alloc::Global;
 use ubi_volume::{AreaFault, Volume, read_leb};
-use ubifs_base::{GeomField, Geometry};
+use ubifs_base::Geometry;
 
 /// The rule on the superblock: LEB 0 begins with an intact superblock node, which needs no unknown feature and whose geometry is
 /// in range (`struct ubifs_sb_node` of ubifs-media.h). Answers the geometry. Takes memory for a LEB.
@@ -93,7 +93,7 @@ fn geometry_in(alloc: Global, leb: &[u8]) -> Result<Geometry, Breach>
     match Geometry::new(&node.raw()) {
         Ok(geometry) => Ok(geometry),
         Err(fault) => Err(Breach::Super {
-            field: field_named(fault.field),
+            field: super_field(fault.field),
         }),
     }
 }
@@ -107,21 +107,4 @@ fn superblock_of(alloc: Global, bytes: &[u8]) -> Option<Super>
         return None;
     };
     node
-}
-
-// The field of a superblock that is a field of its geometry.
-fn field_named(field: GeomField) -> SuperField
-    ensures { result ≡ super_field_of field }
-{
-    match field {
-        GeomField::LebSize => SuperField::LebSize,
-        GeomField::MinIo => SuperField::MinIo,
-        GeomField::LogLebs => SuperField::LogLebs,
-        GeomField::LptLebs => SuperField::LptLebs,
-        GeomField::OrphLebs => SuperField::OrphLebs,
-        GeomField::LebCnt => SuperField::LebCnt,
-        GeomField::MaxLebCnt => SuperField::MaxLebCnt,
-        GeomField::Fanout => SuperField::Fanout,
-        GeomField::LsaveCnt => SuperField::LsaveCnt,
-    }
 }

@@ -6,15 +6,15 @@ ghost use Rattle.ubi_volume.specs.Loading.{IsLoaded};
 ghost use Rattle.image_volume.specs.ImageVolume.{state_of};
 ghost use Rattle.media_sys.specs.SystemNode.{IsSuper};
 ghost use Rattle.media_sys.specs.declared.super_node.Super.{Super as ASuper};
-ghost use Rattle.sound_image.specs.Breaches.{super_field_of};
 ghost use Rattle.image_dump.specs.Opening.{IsImageOpened, IsFaulty, HasGeometry, HasVolume, shape_of, fault_of};
 
 use crate::fault::ImageFault;
 use image_volume::ImageVolume;
 use media_sys::{Super, SuperField};
+use sound_image::super_field;
 use std::alloc::Global;
 use ubi_volume::{LoadFault, VolShape};
-use ubifs_base::{GeomField, Geometry};
+use ubifs_base::Geometry;
 
 /// The bytes of an image as a volume, and its geometry.
 #[derive(Drop)]
@@ -59,7 +59,7 @@ fn geometry_in(alloc: Global, image: &[u8]) -> Result<Geometry, ImageFault>
     match Geometry::new(&node.raw()) {
         Ok(geometry) => Ok(geometry),
         Err(fault) => Err(ImageFault::Super {
-            field: field_named(fault.field),
+            field: super_field(fault.field),
         }),
     }
 }
@@ -73,23 +73,6 @@ fn superblock_of(alloc: Global, bytes: &[u8]) -> Option<Super>
         return None;
     };
     node
-}
-
-// The field of a superblock that is a field of its geometry.
-fn field_named(field: GeomField) -> SuperField
-    ensures { result ≡ super_field_of field }
-{
-    match field {
-        GeomField::LebSize => SuperField::LebSize,
-        GeomField::MinIo => SuperField::MinIo,
-        GeomField::LogLebs => SuperField::LogLebs,
-        GeomField::LptLebs => SuperField::LptLebs,
-        GeomField::OrphLebs => SuperField::OrphLebs,
-        GeomField::LebCnt => SuperField::LebCnt,
-        GeomField::MaxLebCnt => SuperField::MaxLebCnt,
-        GeomField::Fanout => SuperField::Fanout,
-        GeomField::LsaveCnt => SuperField::LsaveCnt,
-    }
 }
 
 // The volume of an image whose geometry is told.

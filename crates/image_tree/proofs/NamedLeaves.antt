@@ -1,5 +1,5 @@
 -- The first of leaves, by the numbers by which they are named.
-use Rattle.std.proofs.Common.{◌≡◌, ℕ, List, [], ◌∷◌, fold, refl, ap, sym, ◌∙◌, Option, Some, None}
+use Rattle.std.proofs.Common.{◌≡◌, ℕ, List, [], ◌∷◌, fold, refl, ap, sym, ◌∙◌, subst, Option, Some, None}
 use Rattle.ubifs_base.specs.Key.{key_words}
 use Rattle.fs_model.specs.declared.change.Change.{Change}
 use Rattle.fs_model.specs.declared.change.Change.TheVariants as changes
@@ -9,6 +9,7 @@ use Rattle.leaf_recovery.specs.Told.{Pairwise}
 use Rattle.sound_image.specs.Breaches.{inode_number_of}
 use Rattle.sound_image.specs.Wrong.{Wrong, differs}
 use Rattle.image_check.specs.WrongValues.{IsFirstOf, sooner_of, wrong_at}
+use Rattle.image_check.specs.declared.wrong_value.WrongValue.{WrongValue}
 use Rattle.tree_check.specs.Places.{misplaced_at, number_shown}
 use Rattle.tree_check.specs.Told.{AreShownBy, IsShownBy, shown_told}
 use Rattle.tree_check.specs.declared.shown_leaf.Shown.{Shown}
@@ -51,8 +52,15 @@ named_first kept leaves h = first_told wrong_named misplaced_at IsShownBy named_
 abbrev pub wrong_empty : Leaf → Wrong
 wrong_empty leaf = record { lnum = leaf.lnum; offs = leaf.offs; misfit = differs 0 0 }
 
-pub empty_first : (leaves : List Leaf) → IsFirstOf (IsAtOne wrong_empty leaves) (fold (λ first leaf. sooner_of first (Some (empty_at leaf))) None leaves)
+empty_first : (leaves : List Leaf) → IsFirstOf (IsAtOne wrong_empty leaves) (fold (λ first leaf. sooner_of first (Some (empty_at leaf))) None leaves)
 empty_first leaves = first_told wrong_empty empty_at (λ a b. a ≡ b) (λ x y e. ap wrong_empty (sym e)) leaves leaves (same_pairs leaves)
+
+-- of leaves that are these names, once they were gone over
+pub empty_named : (leaves names : List Leaf) (first : Option WrongValue) → leaves ≡ names → first ≡ fold (λ first leaf. sooner_of first (Some (empty_at leaf))) None leaves → IsFirstOf (IsAtOne wrong_empty names) first
+empty_named leaves names first same is =
+    let E : List Leaf → Type 0 = λ ls. IsFirstOf (IsAtOne wrong_empty ls) first in
+    let F : Option WrongValue → Type 0 = λ o. IsFirstOf (IsAtOne wrong_empty leaves) o in
+    subst E same (subst F (sym is) (empty_first leaves))
 
 pub no_empty : (leaves : List Leaf) → ((at : Wrong) → IsAtOne wrong_empty leaves at → ⊥) → leaves ≡ []
 no_empty [] none = refl

@@ -20,10 +20,12 @@ use Rattle.journal_scan.specs.Journal.{BudRead, copies_in, journal_nodes_in}
 use Rattle.journal_scan.specs.declared.journal_read.JournalRead.{JournalRead}
 use Rattle.leaf_map.specs.Kept.{Kept, Placed}
 use Rattle.leaf_map.specs.Parts.{Committed, Parts}
-use Rattle.leaf_map.specs.Recovered.{nodes_in_order}
+use Rattle.leaf_map.specs.Recovered.{nodes_in_order, leaves_found, recovered_of}
+use Rattle.leaf_recovery.specs.Repeated.{repeated_leaves}
 use Rattle.leaf_recovery.specs.Told.{AreLeavesTold, IsAtLeaf, IsOneNode, WasRead, IsSource}
 use Rattle.leaf_recovery.specs.declared.recovered_leaf.Place.{Place}
 use Rattle.leaf_recovery.specs.declared.recovered_leaf.RecoveredLeaf.{RecoveredLeaf}
+use Rattle.log_replay.specs.declared.committed_leaf.CommittedLeaf.{CommittedLeaf}
 use Rattle.sound_image.specs.Image.{Image, named_by_ref_node, parts_of}
 use Rattle.sound_image.specs.Leaves.{AreCommitted, IsFoundAt, IsPlacedIn}
 use Rattle.shown_leaves.specs.Copies.{FoundStands}
@@ -81,11 +83,18 @@ block_here (block node) = (node.bytes, refl)
 block_here (entry node) = entry_here node node.attribute
 block_here (truncation node) = tt
 
-pub sourced_all : (contents : ℕ → List ℕ) (parts : Parts) (kept : List Kept) (rs : List RecoveredLeaf) → ((node : Placed) → WasRead parts node → IsPlacedIn contents node) → AreLeavesTold parts kept rs → AreSourced contents kept (map sourced_of rs)
+sourced_all : (contents : ℕ → List ℕ) (parts : Parts) (kept : List Kept) (rs : List RecoveredLeaf) → ((node : Placed) → WasRead parts node → IsPlacedIn contents node) → AreLeavesTold parts kept rs → AreSourced contents kept (map sourced_of rs)
 sourced_all contents parts [] [] reads h = tt
 sourced_all contents parts [] (r ∷ rs) reads h = absurd h
 sourced_all contents parts (x ∷ kept) [] reads h = absurd h
 sourced_all contents parts (x ∷ kept) (r ∷ rs) reads h = (record { is = h.0.leaf; source = source_here contents parts x r.source reads h.0.source; known = (let P : NodeContent → Type 0 = λ k. IsKnownBlock x.node (block_of k) in subst P (sym h.0.content) (block_here x.node)) }, sourced_all contents parts kept rs reads h.1)
+
+sourced_there : (contents now : ℕ → List ℕ) (parts : Parts) (kept : List Kept) (rs items : List RecoveredLeaf) → ((node : Placed) → WasRead parts node → IsPlacedIn contents node) → AreLeavesTold parts kept rs → now ≡ contents → items ≡ rs
+    → AreSourced now kept (map sourced_of items)
+sourced_there contents now parts kept rs items reads told same is =
+    let S : (ℕ → List ℕ) → Type 0 = λ holds. AreSourced holds kept (map sourced_of items) in
+    let L : List RecoveredLeaf → Type 0 = λ xs. AreSourced contents kept (map sourced_of xs) in
+    subst S (sym same) (subst L (sym is) (sourced_all contents parts kept rs reads told))
 
 module _ (laws : StandingLaws) (contents : ℕ → List ℕ) (leaves : List Leaf) (references : List RefNode) (journal : JournalRead) (image : Image) (read : TreeRead) (s : IsJournalOfImage contents leaves references journal image) (r : IsTreeReadOf contents image read) where
   stand : AllByRecursion (FoundStands contents) image.committed
@@ -97,12 +106,12 @@ module _ (laws : StandingLaws) (contents : ℕ → List ℕ) (leaves : List Leaf
   nodes : AllByRecursion (IsPlacedIn contents) (journal_nodes_in image.buds)
   nodes = laws.nodes contents (buds_of references) image.buds s.rule
 
-  pub reads_here : (node : Placed) → WasRead (parts_of image) node → IsPlacedIn contents node
+  reads_here : (node : Placed) → WasRead (parts_of image) node → IsPlacedIn contents node
   reads_here node (inl is) = at_leaf contents node image.committed stand is
   reads_here node (inr (inl is)) = one_node (IsPlacedIn contents) node (journal_nodes_in image.buds) nodes is
   reads_here node (inr (inr is)) = one_node (IsPlacedIn contents) node (copies_in image.buds) copies is
 
-  pub nodes_told : AreNodesTold contents (parts_of image) leaves references read.committed.items journal
+  nodes_told : AreNodesTold contents (parts_of image) leaves references read.committed.items journal
   nodes_told = record {
     parts_told = record {
       leaves = record { log = ap (map named_by_ref_node) (sym s.references_are); told_leaves = r.told; stand = stand };
@@ -113,3 +122,14 @@ module _ (laws : StandingLaws) (contents : ℕ → List ℕ) (leaves : List Leaf
     leaf_nodes = laws.grammar contents (journal_nodes_in image.buds) nodes;
     leaves_are = s.leaves_are ∙ leaves_are contents (leaves_in (plain image.placed)) image.committed r.rule.committed;
   }
+
+  -- what is kept, and what is repeated, in contents that are these, of leaves that are those which were read
+  pub kept_sourced : (now : ℕ → List ℕ) (items : List RecoveredLeaf) → now ≡ contents → items ≡ read.recovered.kept.items → AreSourced now (recovered_of (parts_of image)).kept (map sourced_of items)
+  kept_sourced now items same is = sourced_there contents now (parts_of image) (recovered_of (parts_of image)).kept read.recovered.kept.items items reads_here r.recovered.kept same is
+
+  pub repeated_sourced : (now : ℕ → List ℕ) (items : List RecoveredLeaf) → now ≡ contents → items ≡ read.recovered.repeated.items → AreSourced now (repeated_leaves (leaves_found (parts_of image))) (map sourced_of items)
+  repeated_sourced now items same is = sourced_there contents now (parts_of image) (repeated_leaves (leaves_found (parts_of image))) read.recovered.repeated.items items reads_here r.recovered.repeated same is
+
+  -- and the nodes, of committed leaves that are those which were read
+  pub nodes_there : (committed : List CommittedLeaf) → committed ≡ read.committed.items → AreNodesTold contents (parts_of image) leaves references committed journal
+  nodes_there committed is = let C : List CommittedLeaf → Type 0 = λ cs. AreNodesTold contents (parts_of image) leaves references cs journal in subst C (sym is) nodes_told

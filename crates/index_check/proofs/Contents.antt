@@ -1,10 +1,7 @@
 -- Contents that are the same say the same.
-use Rattle.std.proofs.Common.{◌≡◌, ℕ, ◌+◌, ◌-◌, ◌<◌, ◌≤◌, List, [], ◌++◌, length, take, drop, ap, sym, ◌∙◌, subst, inl, inr, arith}
-use Rattle.std.proofs.lemmas.Bool.{cases_lt}
+use Rattle.std.proofs.Common.{◌≡◌, ℕ, ◌+◌, ◌-◌, ◌≤◌, List, ◌++◌, length, take, drop, ap, sym, ◌∙◌, subst, inl, inr, arith}
 use Rattle.std.proofs.Math.Seq.{take-append_seam}
-use Rattle.ubifs_base.specs.NodeLaws.{IsBytes}
 use Rattle.ubifs_base.specs.declared.raw_geometry.RawGeometry.{RawGeometry}
-use Rattle.ubi_volume.specs.Volume.{VolumeState}
 use Rattle.media_lpt.specs.declared.lprop.Lprop.{Lprop}
 use Rattle.media_sys.specs.Index.{Index}
 use Rattle.media_sys.specs.SystemNode.{IsSystemNode, index}
@@ -15,13 +12,6 @@ use Rattle.sound_image.specs.Wrong.{Misfit, Wrong, differs, type_byte}
 use Rattle.index_check.specs.IndexWalk.{IsIndexStep, IsWrongWanted}
 use Rattle.image_check.specs.WrongValues.{wrong_at}
 use Rattle.index_check.specs.declared.index_walk.IndexWalk.{IndexWalk}
-
--- a volume's contents are bytes
-pub contents_bytes : (s : VolumeState) → ((k : ℕ) → k < s.leb_cnt → IsBytes (s.holds k)) → ((k : ℕ) → s.leb_cnt ≤ k → s.holds k ≡ []) → (k : ℕ) → IsBytes (s.holds k)
-contents_bytes s bytes none k = elim (cases_lt k s.leb_cnt) [
-  | inl less ↦ bytes k less
-  | inr high ↦ let P : List ℕ → Type 0 = λ leb. IsBytes leb in subst P (sym (none k high)) (λ i. omega arith)
-]
 
 pub node_moved : (a b : ℕ → List ℕ) (branch : Branch) (said : Index) → b branch.lnum ≡ a branch.lnum → IsIndexNodeAt b branch said → IsIndexNodeAt a branch said
 node_moved a b branch said e h =

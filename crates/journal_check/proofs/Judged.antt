@@ -20,16 +20,17 @@ use Rattle.bud_log.specs.OneTextLaws.{one_log_text}
 use Rattle.bud_log.specs.References.{OneSystemNode, one_commit}
 use Rattle.bud_log.specs.RingRuns.{OneLebText}
 use Rattle.bud_log.specs.Writing.{IsAmong, IsOlder}
+use Rattle.bud_log.specs.Seen.{IsSeen}
+use Rattle.bud_log.specs.declared.seen.Seen.{Seen}
 use Rattle.sound_image.specs.Log.{EndWhole, NamesMain, ends_in_start}
 use Rattle.sound_image.specs.LogBreaches.{HasNoneSpare, IsBrokenIn, IsTornWithin, LacksItsStart, LooksNewer, NamesNoMain, misnamed, uneven}
 use Rattle.sound_image.specs.Wrong.{IsFirstWrong, IsOneOf, Misfit, Wrong, differs, type_byte}
 use Rattle.sound_image.specs.WrongLaws.{one_behind}
 use Rattle.image_check.specs.WrongValues.{IsFirstOf, wrong_at}
-use Rattle.journal_check.specs.LogChecks.{IsFirstNewer, IsJudgedLog, IsOtherStart, IsReadWhole, IsSeenLeb, first_broken, last_lnum, none_spare, verdict_by, verdict_of}
+use Rattle.journal_check.specs.LogChecks.{IsFirstNewer, IsJudgedLog, IsOtherStart, IsReadWhole, first_broken, last_lnum, none_spare, verdict_by, verdict_of}
 use Rattle.image_check.specs.declared.wrong_value.WrongValue.{WrongValue}
 use Rattle.journal_check.specs.declared.log_verdict.LogVerdict.TheVariants.{Broken}
 use Rattle.journal_check.specs.declared.read_lebs.ReadLebs.{ReadLebs}
-use Rattle.journal_check.specs.declared.seen_leb.SeenLeb.{SeenLeb}
 use Rattle.image_check.specs.FirstLaws.{first_alone}
 use Rattle.journal_check.proofs.LogTexts.{last_of_some, lnum_then}
 use Rattle.journal_check.proofs.NewerLebs.{among_any, lnums_of}
@@ -231,7 +232,7 @@ later_found number None h = absurd cc
 later_found number (Some found) h = (found, refl, ltb-true number found.sqnum h)
 
 all_older : (contents : ℕ → List ℕ) (geo : RawGeometry) (number : ℕ) (texts : List LogText) → ((at : Wrong) → LooksNewer contents geo number texts at → ⊥)
-    → ((lnum : ℕ) → IsLogLeb geo lnum → (IsAmong lnum texts → ⊥) → (seen : SeenLeb) × IsSeenLeb (contents lnum) seen) → (lnum : ℕ) → IsLogLeb geo lnum → (IsAmong lnum texts → ⊥) → IsOlder number lnum (contents lnum)
+    → ((lnum : ℕ) → IsLogLeb geo lnum → (IsAmong lnum texts → ⊥) → (seen : Seen) × IsSeen (contents lnum) seen) → (lnum : ℕ) → IsLogLeb geo lnum → (IsAmong lnum texts → ⊥) → IsOlder number lnum (contents lnum)
 all_older contents geo number texts none seen lnum in_log other =
     let s = seen lnum in_log other in
     let text = text_seen (contents lnum) lnum s.0 s.1 in
@@ -287,7 +288,7 @@ judged one unique contents geo master number read newer text fits is_text commit
     by None e =
         let P : Option WrongValue → Type 0 = λ o. Told contents geo number texts o in
         let none = subst P e told in
-        let seen : (lnum : ℕ) → IsLogLeb geo lnum → (IsAmong lnum texts → ⊥) → (s : SeenLeb) × IsSeenLeb (contents lnum) s = λ lnum in_log other.
+        let seen : (lnum : ℕ) → IsLogLeb geo lnum → (IsAmong lnum texts → ⊥) → (s : Seen) × IsSeen (contents lnum) s = λ lnum in_log other.
         (newest.seen lnum in_log (elim (cases_Bool (list_any (λ k. k == lnum) read.lnums.items)) [
           | inr not ↦ not
           | inl any ↦ (let Q : List ℕ → Type 0 = λ xs. list_any (λ k. k == lnum) xs ≡ true in absurd (other (among_any lnum texts (subst Q h.are.lnums any))))

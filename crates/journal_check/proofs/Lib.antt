@@ -3,6 +3,5 @@ pub mod Calls
 pub mod Judged
 pub mod LogTexts
 pub mod NewerLebs
-pub mod NodeLists
 pub mod OneText
 pub mod TakenReferences

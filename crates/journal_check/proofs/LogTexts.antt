@@ -9,6 +9,7 @@ use Rattle.leb_scan.specs.declared.tail.Tail.TheVariants.{Clean, Torn}
 use Rattle.bud_log.specs.Log.{Stops, next_leb}
 use Rattle.bud_log.specs.LogText.{IsReferenceAt, LogText, begins_with, is_later, is_start_alone, start_of}
 use Rattle.bud_log.specs.RingRuns.{references_then, run_then}
+use Rattle.bud_log.specs.declared.seen.Seen.{Seen}
 use Rattle.sound_image.specs.Log.{ends_in_start}
 use Rattle.sound_image.specs.LogBreaches.{IsTornWithin, NamesNoMain}
 use Rattle.sound_image.specs.Wrong.{IsOneOf, Wrong, differs, type_byte}
@@ -17,7 +18,6 @@ use Rattle.image_check.specs.WrongValues.{IsFirstOf, sooner_of}
 use Rattle.journal_check.specs.LogChecks.{IsAddedTo, IsFresh, IsMisnamedAmong, IsReadAs, IsReadUpTo, IsReadWhole, last_lnum, last_tail, torn_behind}
 use Rattle.image_check.specs.declared.wrong_value.WrongValue.{WrongValue}
 use Rattle.journal_check.specs.declared.read_lebs.ReadLebs.{ReadLebs}
-use Rattle.journal_check.specs.declared.seen_leb.SeenLeb.{SeenLeb}
 use Rattle.image_check.specs.FirstLaws.{first_alone, first_of_both, first_same}
 
 -- the last text is the one that came last
@@ -145,7 +145,7 @@ one_torn contents texts text lnum Torn None here tail_is start_is =
     (λ at w. w.at_is ∙ ap Q here)
 
 -- ---- a text more
-pub read_added : (contents : ℕ → List ℕ) (geo : RawGeometry) (texts : List LogText) (lnum : ℕ) (seen : SeenLeb) (old new : ReadLebs) → IsReadAs contents geo texts old → (a : IsAddedTo geo (contents lnum) lnum seen old new) → IsReadAs contents geo (texts ++ a.text ∷ []) new
+pub read_added : (contents : ℕ → List ℕ) (geo : RawGeometry) (texts : List LogText) (lnum : ℕ) (seen : Seen) (old new : ReadLebs) → IsReadAs contents geo texts old → (a : IsAddedTo geo (contents lnum) lnum seen old new) → IsReadAs contents geo (texts ++ a.text ∷ []) new
 read_added contents geo texts lnum seen old new h a =
     let text = a.text in
     let here = a.is_text.here in
@@ -186,7 +186,7 @@ fresh_as contents geo read h =
     }
 
 -- the first LEB was read
-pub first_read : (contents : ℕ → List ℕ) (geo : RawGeometry) (from number : ℕ) (seen : SeenLeb) (fresh read now : ReadLebs) → IsFresh fresh → (a : IsAddedTo geo (contents from) from seen fresh read) → start_of seen.begins ≡ Some number
+pub first_read : (contents : ℕ → List ℕ) (geo : RawGeometry) (from number : ℕ) (seen : Seen) (fresh read now : ReadLebs) → IsFresh fresh → (a : IsAddedTo geo (contents from) from seen fresh read) → start_of seen.begins ≡ Some number
     → now ≡ record read { alone = false } → IsReadUpTo contents geo from number (next_leb geo from) now
 first_read contents geo from number seen fresh read now h a start now_is =
     let P : ReadLebs → Type 0 = λ r. IsReadUpTo contents geo from number (next_leb geo from) r in
@@ -200,7 +200,7 @@ first_read contents geo from number seen fresh read now h a start now_is =
     })
 
 -- and a LEB more
-pub next_read : (contents : ℕ → List ℕ) (geo : RawGeometry) (from number lnum next : ℕ) (seen : SeenLeb) (old new : ReadLebs) → IsReadUpTo contents geo from number lnum old → lnum ≢ from → IsAddedTo geo (contents lnum) lnum seen old new → IsTrue (is_later number seen.begins)
+pub next_read : (contents : ℕ → List ℕ) (geo : RawGeometry) (from number lnum next : ℕ) (seen : Seen) (old new : ReadLebs) → IsReadUpTo contents geo from number lnum old → lnum ≢ from → IsAddedTo geo (contents lnum) lnum seen old new → IsTrue (is_later number seen.begins)
     → next ≡ next_leb geo lnum → IsReadUpTo contents geo from number next new
 next_read contents geo from number lnum next seen old new h ne a later next_is =
     let P : ℕ → Type 0 = λ n. IsReadUpTo contents geo from number n new in

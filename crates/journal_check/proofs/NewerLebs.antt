@@ -14,12 +14,13 @@ use Rattle.bud_log.specs.OneTextLaws.{one_log_text}
 use Rattle.bud_log.specs.References.{OneSystemNode}
 use Rattle.bud_log.specs.RingRuns.{OneLebText}
 use Rattle.bud_log.specs.Writing.{IsAmong}
+use Rattle.bud_log.specs.Seen.{IsSeen}
+use Rattle.bud_log.specs.declared.seen.Seen.{Seen}
 use Rattle.sound_image.specs.LogBreaches.{LooksNewer}
 use Rattle.sound_image.specs.Wrong.{Misfit, Wrong, differs}
 use Rattle.image_check.specs.WrongValues.{IsFirstOf, sooner_of}
-use Rattle.journal_check.specs.LogChecks.{IsFirstNewer, IsSeenLeb, newer_at}
+use Rattle.journal_check.specs.LogChecks.{IsFirstNewer, newer_at}
 use Rattle.image_check.specs.declared.wrong_value.WrongValue.{WrongValue}
-use Rattle.journal_check.specs.declared.seen_leb.SeenLeb.{SeenLeb}
 use Rattle.image_check.specs.FirstLaws.{first_alone, first_of_both, first_same}
 use Rattle.journal_check.proofs.OneText.{text_seen}
 
@@ -46,7 +47,7 @@ IsNewerBelow contents geo number texts lnum at = LooksNewer contents geo number 
 -- what is kept while the LEBs are gone over: those below this one were seen, or are among these, and this is the first
 pub record IsNewerSoFar (contents : ℕ → List ℕ) (geo : RawGeometry) (number : ℕ) (lnums : List ℕ) (lnum : ℕ) (first : Option WrongValue) : Type 0 where
   pub least : (texts : List LogText) → lnums ≡ lnums_of texts → IsFirstOf (IsNewerBelow contents geo number texts lnum) first
-  pub seen : (k : ℕ) → IsLogLeb geo k → k < lnum → IsFalse (list_any (λ j. j == k) lnums) → (seen : SeenLeb) × IsSeenLeb (contents k) seen
+  pub seen : (k : ℕ) → IsLogLeb geo k → k < lnum → IsFalse (list_any (λ j. j == k) lnums) → (seen : Seen) × IsSeen (contents k) seen
 
 pub newer_none : (contents : ℕ → List ℕ) (geo : RawGeometry) (number : ℕ) (lnums : List ℕ) → IsNewerSoFar contents geo number lnums 3 None
 newer_none contents geo number lnums = record {
@@ -86,7 +87,7 @@ wrong_same : (l m o p : ℕ) (x y : Misfit) → l ≡ m → o ≡ p → x ≡ y
 wrong_same l m o p x y e f g = rw (e, f, g) refl
 
 -- in one LEB
-one_newer : OneSystemNode → OneLebText → (contents : ℕ → List ℕ) (geo : RawGeometry) (number : ℕ) (texts : List LogText) (lnum : ℕ) (seen : SeenLeb) → IsBytes (contents lnum) → IsLogLeb geo lnum → (IsAmong lnum texts → ⊥) → IsSeenLeb (contents lnum) seen
+one_newer : OneSystemNode → OneLebText → (contents : ℕ → List ℕ) (geo : RawGeometry) (number : ℕ) (texts : List LogText) (lnum : ℕ) (seen : Seen) → IsBytes (contents lnum) → IsLogLeb geo lnum → (IsAmong lnum texts → ⊥) → IsSeen (contents lnum) seen
     → IsFirstOf (λ at. LooksNewer contents geo number texts at × (at.lnum ≡ lnum)) (newer_at number lnum seen.begins)
 one_newer one unique contents geo number texts lnum seen fits in_log not_among is = by seen.begins refl
   where
@@ -123,8 +124,8 @@ one_newer one unique contents geo number texts lnum seen fits in_log not_among i
         ]
 
 -- a LEB that wasn't read
-pub newer_next : OneSystemNode → OneLebText → (contents : ℕ → List ℕ) (geo : RawGeometry) (number : ℕ) (lnums : List ℕ) (lnum : ℕ) (first newer next : Option WrongValue) (seen : SeenLeb) → IsBytes (contents lnum) → IsLogLeb geo lnum → list_any (λ k. k == lnum) lnums ≡ false
-    → IsSeenLeb (contents lnum) seen → newer ≡ newer_at number lnum seen.begins → next ≡ sooner_of first newer → IsNewerSoFar contents geo number lnums lnum first → IsNewerSoFar contents geo number lnums (lnum + 1) next
+pub newer_next : OneSystemNode → OneLebText → (contents : ℕ → List ℕ) (geo : RawGeometry) (number : ℕ) (lnums : List ℕ) (lnum : ℕ) (first newer next : Option WrongValue) (seen : Seen) → IsBytes (contents lnum) → IsLogLeb geo lnum → list_any (λ k. k == lnum) lnums ≡ false
+    → IsSeen (contents lnum) seen → newer ≡ newer_at number lnum seen.begins → next ≡ sooner_of first newer → IsNewerSoFar contents geo number lnums lnum first → IsNewerSoFar contents geo number lnums (lnum + 1) next
 newer_next one unique contents geo number lnums lnum first newer next seen fits in_log not is newer_is next_is h = record {
   least = λ texts e.
       (let Q : List ℕ → Type 0 = λ xs. list_any (λ k. k == lnum) xs ≡ false in
@@ -137,7 +138,7 @@ newer_next one unique contents geo number lnums lnum first newer next seen fits 
       (λ at w. elim w [ inl low ↦ (low.0, (let less = low.1 in omega (arith, less))) | inr here ↦ (here.0, (let same = here.1 in omega (arith, same))) ])
       (λ at w. elim (below_or_here at.lnum w.1) [ inl low ↦ inl (w.0, low) | inr here ↦ inr (w.0, here) ])
       (first_of_both (IsNewerBelow contents geo number texts lnum) (λ at. LooksNewer contents geo number texts at × (at.lnum ≡ lnum)) first newer (h.least texts e) (subst F (sym newer_is) own))));
-  seen = λ k in_log less none. elim (below_or_here k less) [ inl more ↦ h.seen k in_log more none | inr here ↦ (let P : ℕ → Type 0 = λ n. (s : SeenLeb) × IsSeenLeb (contents n) s in subst P (sym here) (seen, is)) ];
+  seen = λ k in_log less none. elim (below_or_here k less) [ inl more ↦ h.seen k in_log more none | inr here ↦ (let P : ℕ → Type 0 = λ n. (s : Seen) × IsSeen (contents n) s in subst P (sym here) (seen, is)) ];
 }
   where
     below_or_here : (k : ℕ) → k < lnum + 1 → (k < lnum) ⊎ (k ≡ lnum)

@@ -8,14 +8,14 @@ use Rattle.leb_scan.specs.Text.{nodes_of}
 use Rattle.leb_scan.specs.declared.found.Found.{Found}
 use Rattle.bud_log.specs.LogText.{BeginsCommit, IsLogTextOf, LogText, start_of}
 use Rattle.bud_log.specs.References.{some_references}
-use Rattle.journal_check.specs.LogChecks.{IsSeenLeb}
-use Rattle.journal_check.specs.declared.seen_leb.SeenLeb.{SeenLeb}
+use Rattle.bud_log.specs.Seen.{IsSeen}
+use Rattle.bud_log.specs.declared.seen.Seen.{Seen}
 
 -- a LEB that was seen has this text
-pub text_seen : (leb : List ℕ) (lnum : ℕ) (seen : SeenLeb) (h : IsSeenLeb leb seen) → (text : LogText) × IsLogTextOf leb lnum text × (text.nodes ≡ nodes_of h.items)
+pub text_seen : (leb : List ℕ) (lnum : ℕ) (seen : Seen) (h : IsSeen leb seen) → (text : LogText) × IsLogTextOf leb lnum text × (text.nodes ≡ nodes_of h.items)
 text_seen leb lnum seen h =
-    let some = some_references leb h.items 0 h.end h.is_text.stand in (
-      record { nodes = nodes_of h.items; references = some.0; ends = record { lnum = lnum; offs = h.end; tail = seen.tail } },
+    let some = some_references leb h.items 0 seen.offs h.is_text.stand in (
+      record { nodes = nodes_of h.items; references = some.0; ends = record { lnum = lnum; offs = seen.offs; tail = seen.tail } },
       record { items = h.items; is_text = h.is_text; here = refl; nodes = refl; refer = some.1 },
       refl,
     )

@@ -15,6 +15,8 @@ use Rattle.small_areas.specs.declared.misplaced.Misplaced.{Misplaced}
 use Rattle.bud_log.specs.Log.{IsLogLeb, Stops, references_of}
 use Rattle.bud_log.specs.LogText.{BeginsCommit, IsReferenceAt, IsLogTextOf, LogText, Refer, begins_with, is_start_alone, start_of}
 use Rattle.bud_log.specs.Writing.{IsChain}
+use Rattle.bud_log.specs.Seen.{IsSeen}
+use Rattle.bud_log.specs.declared.seen.Seen.{Seen}
 use Rattle.sound_image.specs.Log.{HasLog, ends_in_start}
 use Rattle.sound_image.specs.LogBreaches.{IsBrokenLog, IsTornWithin, LooksNewer, NamesNoMain, misnamed}
 use Rattle.sound_image.specs.Wrong.{IsOneOf, Wrong, differs, type_byte}
@@ -23,15 +25,6 @@ use Rattle.image_check.specs.declared.wrong_value.WrongValue.{WrongValue}
 use Rattle.journal_check.specs.declared.log_verdict.LogVerdict.{LogVerdict}
 use Rattle.journal_check.specs.declared.log_verdict.LogVerdict.TheVariants.{Broken, Sound}
 use Rattle.journal_check.specs.declared.read_lebs.ReadLebs.{ReadLebs}
-use Rattle.journal_check.specs.declared.seen_leb.SeenLeb.{SeenLeb}
-
--- with what a text begins, whether it is a commit start alone, and how it ends
-pub record IsSeenLeb (leb : List ℕ) (seen : SeenLeb) : Type 0 where
-  pub items : List Item
-  pub end : ℕ
-  pub is_text : IsText leb 0 items end seen.tail
-  pub begins : seen.begins ≡ begins_with (nodes_of items)
-  pub alone : seen.alone ≡ is_start_alone (nodes_of items)
 
 -- one of these nodes of a LEB is a reference that names a place that is none of a main LEB
 pub record IsMisnamedAmong (geo : RawGeometry) (leb : List ℕ) (lnum : ℕ) (nodes : List Found) (at : Wrong) : Type 0 where
@@ -84,7 +77,7 @@ pub record AreTaken (geo : RawGeometry) (leb : List ℕ) (lnum : ℕ) (old new :
   pub is_first : IsFirstOf (IsMisnamedAmong geo leb lnum (nodes_of items)) first
 
 -- a text was added to those that were read
-pub record IsAddedTo (geo : RawGeometry) (leb : List ℕ) (lnum : ℕ) (seen : SeenLeb) (old new : ReadLebs) : Type 0 where
+pub record IsAddedTo (geo : RawGeometry) (leb : List ℕ) (lnum : ℕ) (seen : Seen) (old new : ReadLebs) : Type 0 where
   pub text : LogText
   pub is_text : IsLogTextOf leb lnum text
   pub begins : seen.begins ≡ begins_with text.nodes
@@ -136,7 +129,7 @@ newer_at number lnum (Some found) = if nat_lt number found.sqnum then Some (reco
 -- Of the LEBs of the log whose numbers aren't among these, each was seen; and of those that begin with a number above this one, this is the first.
 pub record IsFirstNewer (contents : ℕ → List ℕ) (geo : RawGeometry) (number : ℕ) (lnums : List ℕ) (first : Option WrongValue) : Type 0 where
   pub least : (texts : List LogText) → lnums ≡ map (λ (text : LogText). text.ends.lnum) texts → IsFirstOf (LooksNewer contents geo number texts) first
-  pub seen : (lnum : ℕ) → IsLogLeb geo lnum → IsFalse (list_any (λ k. k == lnum) lnums) → (seen : SeenLeb) × IsSeenLeb (contents lnum) seen
+  pub seen : (lnum : ℕ) → IsLogLeb geo lnum → IsFalse (list_any (λ k. k == lnum) lnums) → (seen : Seen) × IsSeen (contents lnum) seen
 
 -- what is wrong if all LEBs of the ring were read, and the last is no further commit start alone
 abbrev pub none_spare : RawGeometry → ReadLebs → Option WrongValue

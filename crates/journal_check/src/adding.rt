@@ -2,12 +2,12 @@
 
 ghost use Rattle.std.specs.Prelude.{◌≡◌, ◌<◌, ◌^◌, length, OnOk};
 ghost use Rattle.ubifs_base.specs.RawOf.{raw_of};
-ghost use Rattle.journal_check.specs.LogChecks.{IsAddedTo, IsSeenLeb, torn_behind as torn_at};
+ghost use Rattle.bud_log.specs.Seen.{IsSeen};
+ghost use Rattle.journal_check.specs.LogChecks.{IsAddedTo, torn_behind as torn_at};
 
 use crate::read_lebs::ReadLebs;
 use crate::references::take_references;
-use crate::seeing::start_of;
-use crate::seen_leb::SeenLeb;
+use bud_log::{Seen, start_of};
 use image_check::{WrongValue, sooner, type_byte};
 use leb_scan::{Tail, one_text};
 use std::alloc::{AllocError, Global};
@@ -19,11 +19,11 @@ pub(crate) fn add(
     geometry: &Geometry,
     lnum: u32,
     leb: &[u8],
-    seen: SeenLeb,
+    seen: Seen,
     read: &mut ReadLebs,
 ) -> Result<(), AllocError>
     requires size { length leb.now < 2 ^ 32 }
-    requires seen { IsSeenLeb leb.now seen }
+    requires seen { IsSeen leb.now seen }
     ensures { OnOk result (IsAddedTo (raw_of geometry.now) leb.now lnum seen read.old read.new) }
 {
     one_text();

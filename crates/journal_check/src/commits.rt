@@ -5,8 +5,7 @@ ghost use Rattle.bud_log.specs.LogText.{BeginsCommit, start_of as start_number};
 ghost use Rattle.bud_log.specs.Seen.{HasBeginning};
 ghost use Rattle.journal_check.specs.LogChecks.{IsOtherStart};
 
-use crate::seeing::start_of;
-use bud_log::commit_of;
+use bud_log::{commit_of, start_of};
 use image_check::{WrongValue, type_byte};
 use leb_scan::Found;
 use std::alloc::Global;

@@ -15,8 +15,6 @@ mod newer;
 mod read_lebs;
 mod reading;
 mod references;
-mod seeing;
-mod seen_leb;
 
 pub use crate::log_check::check_log;
 pub use crate::log_found::LogFound;

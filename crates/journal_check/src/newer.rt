@@ -6,10 +6,10 @@ ghost use Rattle.ubifs_base.specs.Areas.{lpt_first};
 ghost use Rattle.ubifs_base.specs.RawOf.{raw_of};
 ghost use Rattle.ubi_volume.specs.Volume.{Keeps, SameShape};
 ghost use Rattle.ubi_volume.specs.Faults.{HasCause, StaysSure};
-ghost use Rattle.journal_check.specs.LogChecks.{IsFirstNewer, IsSeenLeb, newer_at as is_newer_at};
+ghost use Rattle.bud_log.specs.Seen.{IsSeen};
+ghost use Rattle.journal_check.specs.LogChecks.{IsFirstNewer, newer_at as is_newer_at};
 
-use crate::seeing::see;
-use crate::seen_leb::SeenLeb;
+use bud_log::{Seen, see};
 use image_check::{WrongValue, sooner};
 use leb_scan::{Found, one_text};
 use media_sys::one_node;
@@ -69,11 +69,11 @@ fn newer_at(number: u64, lnum: u32, begins: Option<Found>) -> Option<WrongValue>
 }
 
 // Reads a LEB, and sees what it begins with.
-fn read_seen<V: Volume>(volume: &mut V, lnum: u32, leb: &mut [u8]) -> Result<SeenLeb, VolFault>
+fn read_seen<V: Volume>(volume: &mut V, lnum: u32, leb: &mut [u8]) -> Result<Seen, VolFault>
     requires lnum { lnum < (V.state volume.old).leb_cnt }
     requires whole { length leb.old ≡ (V.state volume.old).leb_size }
     requires size { length leb.old < 2 ^ 32 }
-    ensures seen { IfOk result (IsSeenLeb ((V.state volume.old).holds lnum)) }
+    ensures seen { IfOk result (IsSeen ((V.state volume.old).holds lnum)) }
     ensures len { length leb.new ≡ length leb.old }
     ensures keeps { Keeps (V.state volume.old) (V.state volume.new) }
     ensures shape { SameShape (V.state volume.old) (V.state volume.new) }

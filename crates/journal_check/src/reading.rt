@@ -13,9 +13,7 @@ ghost use Rattle.journal_check.specs.LogChecks.{IsAddedTo, IsReadUpTo, IsReadWho
 
 use crate::adding::add;
 use crate::read_lebs::ReadLebs;
-use crate::seeing::{is_later, see};
-use crate::seen_leb::SeenLeb;
-use bud_log::next_leb;
+use bud_log::{Seen, is_later, next_leb, see};
 use leb_scan::{Tail, one_text};
 use media_sys::one_node;
 use std::alloc::Global;
@@ -45,7 +43,7 @@ pub(crate) fn read_first<V: Volume>(
     lnum: u32,
     leb: &mut [u8],
     read: &mut ReadLebs,
-) -> Result<SeenLeb, AreaFault>
+) -> Result<Seen, AreaFault>
     requires lnum { lnum < (V.state volume.old).leb_cnt }
     requires whole { length leb.old ≡ (V.state volume.old).leb_size }
     requires size { length leb.old < 2 ^ 32 }

@@ -1,16 +1,13 @@
 // The references of a log LEB.
 
-ghost use Rattle.std.specs.Prelude.{◌≡◌, ◌+◌, ◌<◌, ◌≤◌, ◌^◌, ℕ, length, IfOk, IfSome, IfNone, IsSome};
-ghost use Rattle.std.specs.Option.{option_or};
+ghost use Rattle.std.specs.Prelude.{◌≡◌, ◌<◌, ◌^◌, length, IfOk};
 ghost use Rattle.ubifs_base.specs.RawOf.{raw_of};
-ghost use Rattle.media_sys.specs.SystemNode.{IsRef};
-ghost use Rattle.media_sys.specs.declared.ref_node.RefNode.{RefNode as AReference};
-ghost use Rattle.bud_log.specs.LogText.{IsReferenceAt};
 ghost use Rattle.sound_image.specs.LogBreaches.{misnamed};
 ghost use Rattle.journal_check.specs.LogChecks.{AreTaken, differing_at};
 
+use bud_log::reference_at;
 use image_check::{WrongValue, sooner};
-use leb_scan::{Found, Scanner};
+use leb_scan::Scanner;
 use media_sys::{RefNode, one_node};
 use std::alloc::{AllocError, Global};
 use ubifs_base::{Geometry, NodeType};
@@ -69,27 +66,4 @@ fn differing(lnum: u32, offs: u32, wanted: u32, found: u32) -> Option<WrongValue
         wanted: wanted as u64,
         found: found as u64,
     })
-}
-
-// The reference that was found in a LEB.
-fn reference_at(alloc: Global, leb: &[u8], found: Found) -> Option<RefNode>
-    requires room { found.offs + found.len ≤ length leb.now }
-    requires there { (node : AReference) × IsReferenceAt leb.now found node }
-    ensures some { IfSome result (IsReferenceAt leb.now found) }
-    ensures is_some { IsSome result }
-{
-    let rest = leb.split_at(found.offs as usize).1;
-    reference_of(alloc, rest.split_at(found.len as usize).0)
-}
-
-// The reference that the bytes are.
-fn reference_of(alloc: Global, bytes: &[u8]) -> Option<RefNode>
-    ensures some { IfSome result (λ node. (sqnum group : ℕ) (other : AReference) → IsRef bytes.now sqnum group other → node ≡ other) }
-    ensures none { IfNone result ((sqnum group : ℕ) (other : AReference) → IsRef bytes.now sqnum group other → ⊥) }
-{
-    one_node();
-    let Ok(node) = RefNode::decode(alloc, bytes) else {
-        return None;
-    };
-    node
 }

@@ -10,3 +10,4 @@ mod Counting
 mod Few
 mod Rising
 mod Indexing
+mod Begun

@@ -3,7 +3,6 @@ pub mod CommittedLeaves
 pub mod Copies
 pub mod Firsts
 pub mod Judged
-pub mod Kept
 pub mod KnownNodes
 pub mod NodeKeys
 pub mod Overlaps

@@ -40,8 +40,8 @@ pub fn number_of(key: &Key) -> u32
     }
 }
 
-// The key of the leaf that a node makes, if it makes one.
-pub(crate) fn key_of(content: &NodeContent) -> Option<Key>
+/// The key of the leaf that a node makes, if it makes one.
+pub fn key_of(content: &NodeContent) -> Option<Key>
     ensures { result ≡ key_told content.now }
 {
     match content {
@@ -147,8 +147,8 @@ pub(crate) fn place_of(node: &JournalNode) -> Place
     }
 }
 
-// Whether a node makes this leaf.
-pub(crate) fn makes(node: &JournalNode, leaf: &Leaf) -> bool
+/// Whether a node makes this leaf.
+pub fn makes(node: &JournalNode, leaf: &Leaf) -> bool
     ensures { result ≡ is_at_leaf leaf.now node.now }
 {
     match key_of(&node.content) {

@@ -1,7 +1,7 @@
 -- What is laid in three calls around main LEBs is an image of them.
-use Rattle.std.proofs.Common.{◌≡◌, ℕ, ◌+◌, ◌-◌, ◌^◌, ◌<◌, ◌≤◌, nat_lt, Bool, true, false, List, [], inl, inr, refl, ap, sym, ◌∙◌, subst, length, arith}
+use Rattle.std.proofs.Common.{◌≡◌, ℕ, ◌+◌, ◌-◌, ◌^◌, ◌<◌, ◌≤◌, true, false, List, [], inl, inr, refl, ap, sym, ◌∙◌, subst, length, arith}
 use Rattle.std.specs.Prelude.{◌≢◌, ◌⊎◌, Result, Ok, Err, OnOk}
-use Rattle.std.proofs.lemmas.Bool.{lt-ltb, ltb-false, ltb-true}
+use Rattle.std.proofs.lemmas.Bool.{lt-ltb}
 use Rattle.ubifs_base.specs.Areas.{lpt_first, main_first}
 use Rattle.ubifs_base.specs.Geometry.{IsGeometry}
 use Rattle.ubifs_base.specs.NodeLaws.{IsBytes}
@@ -113,14 +113,6 @@ module _ (geo : RawGeometry) (g : IsGeometry geo) (s0 s1 s2 s3 : VolumeState) (f
           areas = now;
           laid = is_laid geo g small main filled_main s3.holds bytes full placed nodes indexed treed.at uuid sqnum few super now tree blank none_written meets laws;
         }
-
--- each LEB has bytes, and one that isn't there has none
-pub all_bytes : (holds : ℕ → List ℕ) (count : ℕ) → ((lnum : ℕ) → lnum < count → IsBytes (holds lnum)) → ((lnum : ℕ) → count ≤ lnum → holds lnum ≡ []) → (lnum : ℕ) → IsBytes (holds lnum)
-all_bytes holds count some none lnum = by (nat_lt lnum count) refl
-  where
-    by : (b : Bool) → nat_lt lnum count ≡ b → IsBytes (holds lnum)
-    by true e = some lnum (ltb-true lnum count e)
-    by false e = let P : List ℕ → Type 0 = IsBytes in subst P (sym (none lnum (ltb-false lnum count e))) (λ i. ltb-true 0 256 refl)
 
 -- a call behind another stays sure
 pub sure_then : {X Y : Type 0} (a b c : VolumeState) → (a.sure → b.spent ⊎ (b.sure × ((b.faults ≡ a.faults) × X))) → (b.spent → c.spent) → (b.sure → c.spent ⊎ (c.sure × ((c.faults ≡ b.faults) × Y)))

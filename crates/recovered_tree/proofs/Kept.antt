@@ -1,9 +1,7 @@
 -- A volume that is only read.
-use Rattle.std.proofs.Common.{◌≡◌, ◌<◌, ◌≤◌, ℕ, List, [], Result, Ok, Err, inl, inr, arith, sym, subst}
+use Rattle.std.proofs.Common.{◌≡◌, ℕ, Result, Ok, Err, inl, inr, sym, subst}
 use Rattle.std.specs.Result.{IsErrAnd}
-use Rattle.std.proofs.lemmas.Bool.{cases_lt}
 use Rattle.ubifs_base.specs.Faults.{IsCause-before}
-use Rattle.ubifs_base.specs.NodeLaws.{IsBytes}
 use Rattle.ubi_volume.specs.Faults.{HasAreaCause, StaysSureArea}
 use Rattle.ubi_volume.specs.Volume.{VolumeState, Keeps, SameShape}
 use Rattle.ubi_volume.specs.VolumeLaws.{Keeps-then, SameShape-then}
@@ -57,10 +55,3 @@ exit_reads S {T} old now fault (Err y) e h =
 -- contents that are alike LEB by LEB are the same
 pub kept_holds : (old now : VolumeState) → Keeps old now → now.holds ≡ old.holds
 kept_holds old now keeps = λ i k. keeps.holds k i
-
--- a volume's contents are bytes
-pub contents_bytes : (s : VolumeState) → ((k : ℕ) → k < s.leb_cnt → IsBytes (s.holds k)) → ((k : ℕ) → s.leb_cnt ≤ k → s.holds k ≡ []) → (k : ℕ) → IsBytes (s.holds k)
-contents_bytes s bytes none k = elim (cases_lt k s.leb_cnt) [
-  | inl less ↦ bytes k less
-  | inr high ↦ let P : List ℕ → Type 0 = λ leb. IsBytes leb in subst P (sym (none k high)) (λ i. omega arith)
-]

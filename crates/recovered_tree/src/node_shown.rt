@@ -1,15 +1,14 @@
 // What a leaf's node shows.
 
 ghost use Rattle.std.specs.Prelude.{◌≡◌, IfOk, take, drop};
-ghost use Rattle.group_nodes.specs.Nodes.{bits_of, kind_of_bits};
 ghost use Rattle.leaf_map.specs.Kept.{shown};
 ghost use Rattle.media_leaf.specs.LeafNode.{inode};
 ghost use Rattle.recovered_tree.specs.Sets.{IsShownIn};
 ghost use Rattle.ubi_volume.specs.Faults.{HasAreaCause, StaysSureArea};
 ghost use Rattle.ubi_volume.specs.Volume.{Keeps, SameShape};
 
-use fs_model::{Change, Inode, Kind};
-use group_nodes::read_change;
+use fs_model::{Change, Inode};
+use group_nodes::{kind_of_mode, read_change};
 use media_leaf::{InoNode, one_node};
 use std::alloc::Global;
 use ubi_volume::{AreaFault, Volume};
@@ -81,26 +80,4 @@ fn inode_shown(node: InoNode) -> Option<Change>
         ino: node.ino,
         inode,
     })
-}
-
-// The kind that a mode names.
-fn kind_of_mode(mode: u32) -> Option<Kind>
-    ensures { result ≡ kind_of_bits (bits_of mode) }
-{
-    kind_of_bits(mode / 0o10000 % 0o20 * 0o10000)
-}
-
-fn kind_of_bits(bits: u32) -> Option<Kind>
-    ensures { result ≡ kind_of_bits bits }
-{
-    match bits {
-        0o100000 => Some(Kind::File),
-        0o040000 => Some(Kind::Dir),
-        0o120000 => Some(Kind::Symlink),
-        0o060000 => Some(Kind::Block),
-        0o020000 => Some(Kind::Char),
-        0o010000 => Some(Kind::Fifo),
-        0o140000 => Some(Kind::Socket),
-        _ => None,
-    }
 }

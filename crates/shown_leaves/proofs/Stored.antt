@@ -1,10 +1,8 @@
 -- Leaf nodes that were read: which node bytes are, and whether two are the same.
-use Rattle.std.proofs.Common.{◌≡◌, ℕ, zero, suc, ◌+◌, ◌<◌, ◌≤◌, List, [], ◌∷◌, Option, Some, None, IfNone, IfOk, Result, Ok, Err, take, drop, ap, sym, subst, inl, inr, arith, get_or-drop}
+use Rattle.std.proofs.Common.{◌≡◌, ℕ, zero, suc, ◌+◌, ◌<◌, List, [], ◌∷◌, Option, Some, None, IfNone, IfOk, Result, Ok, Err, take, drop, ap, subst, arith, get_or-drop}
 use Rattle.std.specs.Prelude.{get_or}
 use Rattle.std.specs.Option.{option_map}
-use Rattle.std.proofs.lemmas.Bool.{cases_lt}
 use Rattle.ubifs_base.specs.NodeLaws.{IsBytes}
-use Rattle.ubi_volume.specs.Volume.{VolumeState}
 use Rattle.media_leaf.specs.LeafNode.{IsLeafNode, LeafNode, inode, block, entry, truncation}
 use Rattle.media_leaf.specs.declared.data_node.DataNode.{DataNode}
 use Rattle.media_leaf.specs.declared.dent_node.DentNode.{DentNode}
@@ -46,13 +44,6 @@ read_is one bytes s g node (Some there) fits h (t, k, is) = ap (λ (n : LeafNode
 -- what isn't there is none
 pub none_is : {X : Type 0} (o : Option X) (P : Type 0) → o ≡ None → IfNone o P → P
 none_is {X} o P is h = let Q : Option X → Type 0 = λ r. IfNone r P in subst Q is h
-
--- a volume's contents are bytes
-pub contents_bytes : (s : VolumeState) → ((k : ℕ) → k < s.leb_cnt → IsBytes (s.holds k)) → ((k : ℕ) → s.leb_cnt ≤ k → s.holds k ≡ []) → (k : ℕ) → IsBytes (s.holds k)
-contents_bytes s bytes none k = elim (cases_lt k s.leb_cnt) [
-  | inl less ↦ bytes k less
-  | inr high ↦ let P : List ℕ → Type 0 = λ leb. IsBytes leb in subst P (sym (none k high)) (λ i. omega arith)
-]
 
 pub ok_map : {X E : Type 0} (r : Result X E) (P Q : X → Type 0) → ((x : X) → P x → Q x) → IfOk r P → IfOk r Q
 ok_map (Ok x) P Q f h = f x h

@@ -2,16 +2,10 @@
 
 ghost use Rattle.std.specs.Prelude.{◌≡◌, ◌↔◌, List, All, map, IfNone, IfOk, IsTrue};
 ghost use Rattle.std.specs.List.{list_any};
-ghost use Rattle.index_tree.specs.Order.{key_rank};
-ghost use Rattle.index_tree.specs.Removal.{same_leaf};
 ghost use Rattle.leaf_map.specs.Kept.{Placed};
 ghost use Rattle.leaf_map.specs.Parts.{Committed, Named, Parts, in_bud};
-ghost use Rattle.log_replay.specs.Changes.{place_of_node};
-ghost use Rattle.log_replay.specs.Standing.{leaf_of_key};
-ghost use Rattle.ubifs_base.specs.declared.key.Key.{Key as AKey};
 ghost use Rattle.journal_scan.specs.Content.{told};
 ghost use Rattle.log_replay.specs.Replay.{told_committed};
-ghost use Rattle.log_replay.specs.Things.{is_at_leaf, key_told};
 ghost use Rattle.sound_image.specs.Image.{named_by_ref_node};
 ghost use Rattle.sound_image.specs.Leaves.{IsPlacedIn};
 ghost use Rattle.sound_image.specs.Tree.{IsCopy};
@@ -22,19 +16,18 @@ ghost use Rattle.shown_leaves.specs.FalseNodes.{IsFalseCopy};
 ghost use Rattle.shown_leaves.specs.Copies.{AreCommittedTold, ArePartsTold, DecidesCopy, FoundStands, IsOwnAmong, IsOwnAt, has_own_told, is_lost_at};
 ghost use Rattle.shown_leaves.specs.Stored.{leaf_node};
 
-use crate::key_order::rank;
 use crate::reading::read_node;
 use crate::stored_node::{StoredNode, is_same_node};
 use crate::unchanging::wrong_node;
 use image_check::{WrongValue, sooner};
 use index_tree::Leaf;
-use journal_scan::{JournalNode, NodeContent};
+use journal_scan::JournalNode;
 use log_replay::CommittedLeaf;
+use log_replay::thing::{key_of, makes, rank};
 use media_leaf::one_node;
 use media_sys::RefNode;
 use std::alloc::Global;
 use ubi_volume::{AreaFault, Volume};
-use ubifs_base::{Key, r5};
 
 /// The first of the collector's nodes that is no copy: neither of the own node of a committed leaf nor of one whose own node can't be
 /// read (Hunter 2008, "Garbage collection"; `move_nodes` of Linux fs/ubifs copies nodes as they are). `references` are the log's,
@@ -185,49 +178,4 @@ fn is_in_bud(references: &[RefNode], leaf: &Leaf) -> bool
         }
     }
     false
-}
-
-// Whether a node makes this leaf.
-fn makes(node: &JournalNode, leaf: &Leaf) -> bool
-    ensures { result ≡ is_at_leaf leaf.now node.now }
-{
-    match key_of(&node.content) {
-        Some(key) => is_one(leaf, rank(&key), node),
-        None => false,
-    }
-}
-
-// Whether a leaf has a key of this rank and the place of a node.
-#[tactic(auto, unfolding(index_tree::specs::Removal::same_leaf))]
-fn is_one(leaf: &Leaf, sought: u128, node: &JournalNode) -> bool
-    ensures { (key : AKey) → sought ≡ key_rank key → result ≡ same_leaf leaf.now (leaf_of_key key (place_of_node node.now)) }
-{
-    rank(&leaf.key) == sought
-        && leaf.lnum == node.lnum
-        && leaf.offs == node.offs
-        && leaf.len == node.len
-}
-
-// The key of the leaf that a node makes, if it makes one.
-fn key_of(content: &NodeContent) -> Option<Key>
-    ensures { result ≡ key_told content.now }
-{
-    match content {
-        NodeContent::Inode { ino, .. } => Some(Key::Ino { ino: *ino }),
-        NodeContent::Block { ino, block } => Some(Key::Block {
-            ino: *ino,
-            block: *block,
-        }),
-        NodeContent::Entry {
-            dir,
-            name,
-            linked: true,
-        } => Some(Key::Dent {
-            dir: *dir,
-            hash: r5(name.as_slice()),
-        }),
-        NodeContent::Entry { linked: false, .. }
-        | NodeContent::Truncation { .. }
-        | NodeContent::Unknown { .. } => None,
-    }
 }

@@ -13,7 +13,6 @@ ghost use Rattle.shown_leaves.specs.Sources.{AreSourced, IsSourced, IsUnlike, Is
 ghost use Rattle.shown_leaves.specs.Judged.{is_at_source, judged_of, known_in_place, source_in_place};
 ghost use Rattle.shown_leaves.specs.Stored.{leaf_node};
 
-use crate::key_order::number_of;
 use crate::reading::read_node;
 use crate::shown::{is_leaf_shown, shown_of};
 use crate::shown_leaves::ShownLeaves;
@@ -22,6 +21,7 @@ use crate::standing::{MOST_BYTES, read_standing};
 use crate::standing_in::stand_in;
 use crate::stored_node::{StoredNode, is_same_node};
 use image_check::{WrongValue, sooner};
+use log_replay::thing::number_of;
 use media_leaf::one_node;
 use std::alloc::Global;
 use tree_check::{Shown, ShownLeaf, number_shown};

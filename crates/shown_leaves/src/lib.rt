@@ -8,7 +8,6 @@
 #![tactic(auto)]
 
 mod copies;
-mod key_order;
 mod laws;
 mod leaves;
 mod reading;

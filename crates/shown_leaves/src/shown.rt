@@ -1,7 +1,6 @@
 // What a node shows.
 
 ghost use Rattle.std.specs.Prelude.{◌≡◌, Some};
-ghost use Rattle.group_nodes.specs.Nodes.{bits_of, kind_of_bits, kind_of_type};
 ghost use Rattle.leaf_map.specs.Kept.{shown};
 ghost use Rattle.media_leaf.specs.LeafNode.{entry, truncation};
 ghost use Rattle.tree_check.specs.Told.{shown_told};
@@ -10,7 +9,7 @@ ghost use Rattle.shown_leaves.specs.Judged.{entry_told, inode_told, is_shown_tol
 ghost use Rattle.shown_leaves.specs.Stored.{leaf_node};
 
 use crate::stored_node::StoredNode;
-use fs_model::Kind;
+use group_nodes::{kind_of_mode, kind_of_type};
 use media_leaf::{DentNode, TrunNode};
 use tree_check::Shown;
 use ubifs_base::Name;
@@ -86,43 +85,5 @@ pub(crate) fn is_leaf_shown(shown: &Shown) -> bool
     match shown {
         Shown::Inode { .. } | Shown::Block { .. } | Shown::Entry { .. } => true,
         Shown::Deletion { .. } | Shown::Truncation { .. } | Shown::Nothing => false,
-    }
-}
-
-// The kind that a mode names.
-fn kind_of_mode(mode: u32) -> Option<Kind>
-    ensures { result ≡ kind_of_bits (bits_of mode) }
-{
-    kind_of_bits(mode / 0o10000 % 0o20 * 0o10000)
-}
-
-fn kind_of_bits(bits: u32) -> Option<Kind>
-    ensures { result ≡ kind_of_bits bits }
-{
-    match bits {
-        0o100000 => Some(Kind::File),
-        0o040000 => Some(Kind::Dir),
-        0o120000 => Some(Kind::Symlink),
-        0o060000 => Some(Kind::Block),
-        0o020000 => Some(Kind::Char),
-        0o010000 => Some(Kind::Fifo),
-        0o140000 => Some(Kind::Socket),
-        _ => None,
-    }
-}
-
-// The kind that an entry's type names.
-fn kind_of_type(code: u8) -> Option<Kind>
-    ensures { result ≡ kind_of_type code }
-{
-    match code {
-        0 => Some(Kind::File),
-        1 => Some(Kind::Dir),
-        2 => Some(Kind::Symlink),
-        3 => Some(Kind::Block),
-        4 => Some(Kind::Char),
-        5 => Some(Kind::Fifo),
-        6 => Some(Kind::Socket),
-        _ => None,
     }
 }

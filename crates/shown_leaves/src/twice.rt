@@ -6,9 +6,9 @@ ghost use Rattle.sound_image.specs.Breaches.{IsCommittedTwice};
 ghost use Rattle.image_check.specs.WrongValues.{IsFirstOf};
 ghost use Rattle.shown_leaves.specs.Spots.{AreSpotsApart, IsApartFrom, IsTwiceIn, Spot, has_spot, is_at_one_place, is_same_spot, spot_of, wrong_leaf};
 
-use crate::key_order::{number_of, rank};
 use image_check::{WrongValue, sooner};
 use index_tree::Leaf;
+use log_replay::thing::{number_of, rank};
 use std::alloc::Global;
 use std::collections::BTreeSet;
 use ubifs_base::Memory;

@@ -10,9 +10,9 @@ ghost use Rattle.image_check.specs.WrongValues.{IsFirstOf, sooner_of};
 ghost use Rattle.shown_leaves.specs.FalseNodes.{IsUnchanging};
 ghost use Rattle.shown_leaves.specs.Told.{unchanging_told, wrong_node_told};
 
-use crate::key_order::number_of;
 use image_check::{WrongValue, sooner};
 use journal_scan::{JournalNode, NodeContent};
+use log_replay::thing::number_of;
 
 /// The first of the journal's nodes that says no change of the tree: an attribute, or an inode with links whose mode names no kind
 /// (`struct ubifs_ino_node` of ubifs-media.h). The nodes are those to be applied, in order of number. The inode number of the node's

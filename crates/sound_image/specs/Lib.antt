@@ -23,3 +23,4 @@ pub mod Breaches
 pub mod Laid
 pub mod Worked
 pub mod WrongLaws
+pub mod ContentsLaws

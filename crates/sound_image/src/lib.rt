@@ -9,6 +9,7 @@
 mod breach;
 mod laws;
 mod rule;
+mod super_field;
 
 pub use crate::breach::Breach;
 pub use crate::laws::{
@@ -21,3 +22,4 @@ pub use crate::laws::{
     what_is_written_meets_the_rules, what_was_read_stands,
 };
 pub use crate::rule::Rule;
+pub use crate::super_field::super_field;

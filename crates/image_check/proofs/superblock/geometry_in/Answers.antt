@@ -17,4 +17,4 @@ returns-in-Err-clause-broken c =
     let few = c.if-leb-lt4096.false in
     let begins = begins_of c.args.leb.now c.split_at.result.0.now c.in-Some.node (omega (arith, few)) c.split_at.ensures.front c.in-Some.ensures.some in
     let P : RawGeometry → Type 0 = λ g. IsFirstOut g tested_fields c.in-Err.fault in
-    inr (c.in-Some.node, begins, sym c.feature.ensures ∙ c.in_default-feature.is, (c.in-Err.fault, subst P c.raw.ensures c.in-Err.ensures.first, c.field_named.ensures))
+    inr (c.in-Some.node, begins, sym c.feature.ensures ∙ c.in_default-feature.is, (c.in-Err.fault, subst P c.raw.ensures c.in-Err.ensures.first, c.super_field.ensures))

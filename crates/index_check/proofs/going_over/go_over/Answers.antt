@@ -1,8 +1,9 @@
 use Rattle.std.proofs.Common.{arith, refl}
 use Rattle.ubifs_base.specs.RawOf.{raw_of}
 use Rattle.image_check.specs.KeptLaws.{kept_start}
+use Rattle.sound_image.specs.ContentsLaws.{contents_bytes}
 use Rattle.index_check.specs.declared.index_walk.IndexWalk.{IndexWalk}
-use Rattle.index_check.proofs.Contents.{contents_bytes, step_moved}
+use Rattle.index_check.proofs.Contents.{step_moved}
 use Rattle.index_check.proofs.Kept.{kept_on}
 use Rattle.index_check.proofs.Walks.{less_left, next_keys, walk_broken, walk_met, walk_next, walk_start}
 use Rattle.index_check.specs.IndexWalk.{wanted_of}

@@ -4,8 +4,8 @@ use Rattle.std.specs.List.{list_any}
 use Rattle.ubifs_base.specs.Areas.{lpt_first}
 use Rattle.ubifs_base.specs.RawOf.{raw_of}
 use Rattle.bud_log.specs.KeepsOnLaws.{KeepsOn, keeps_on_then}
+use Rattle.bud_log.specs.Seen.{IsSeen}
 use Rattle.image_check.specs.WrongValues.{sooner_of}
-use Rattle.journal_check.specs.LogChecks.{IsSeenLeb}
 use Rattle.image_check.specs.declared.wrong_value.WrongValue.{WrongValue}
 use Rattle.journal_check.proofs.NewerLebs.{IsNewerSoFar, newer_all, newer_next, newer_skip}
 use Rattle.journal_check.proofs.newer.first_newer.Goals.{then-not-is_among+in_ok-seen, else-not-is_among}
@@ -33,7 +33,7 @@ loop-lnum-preserved g c =
           let first : c.if-not-is_among.first ≡ sooner_of c.loop-lnum.first w.newer_at.result = (let x = w.first-is in let y = w.sooner-first.ensures in cc) in
           let vol : w.read_seen.new.volume ≡ c.if-not-is_among.volume = (let x = w.volume-is in cc) in
           let len : c.if-not-is_among.leb ≡ w.read_seen.new.leb = (let x = w.leb-is in cc) in
-          let P : List ℕ → Type 0 = λ leb. IsSeenLeb leb w.in_ok-seen.seen in
+          let P : List ℕ → Type 0 = λ leb. IsSeen leb w.in_ok-seen.seen in
           let Q : _ → Type 0 = λ v. KeepsOn a (g.V.Volume.state v) in (
             newer_next c.one_node.ensures c.one_text.ensures a.holds geo c.args.number lnums lnum c.loop-lnum.first w.newer_at.result c.if-not-is_among.first w.in_ok-seen.seen (g.met.V.Volume.leb_bytes c.args.volume.now lnum (omega (arith, high, lebs)))
                 (record { low = low; high = high }) not (subst P (kept.keeps.holds lnum) w.in_ok-seen.ensures.seen) w.newer_at.ensures first inv.0,

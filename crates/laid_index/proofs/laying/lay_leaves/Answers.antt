@@ -1,17 +1,18 @@
 use Rattle.std.proofs.Common.{◌≡◌, ℕ, ◌+◌, List, length, Ok, Err, ap, sym, ◌∙◌, subst, refl, arith, inl, inr}
 use Rattle.std.specs.Prelude.{map}
 use Rattle.std.proofs.lemmas.Bool.{cases_order}
-use Rattle.std.proofs.lemmas.List.{length-map, length_push}
+use Rattle.std.proofs.lemmas.List.{length-map}
 use Rattle.ubifs_base.specs.RawOf.{raw_of}
 use Rattle.ubi_volume.specs.declared.fault.AreaFault.TheVariants.{Memory}
 use Rattle.media_sys.specs.declared.branch.Branch.{Branch}
 use Rattle.index_media.specs.PlacedRow.{branch_to}
 use Rattle.laid_index.specs.Crowned.{IsCrowned}
-use Rattle.laid_index.specs.Opened.{AreNodesReady, open_lnum, taken_after}
-use Rattle.laid_index.specs.Packing.{index_used, lens_above, packed}
+use Rattle.laid_index.specs.Opened.{AreNodesReady, open_lnum}
+use Rattle.laid_index.specs.Packing.{index_used, lens_above}
 use Rattle.laid_index.specs.Rows.{AreInOrder}
-use Rattle.laid_index.proofs.Answering.{answered_err, answered_memory, answered_none, answered_ok, answered_then, answered_wider, exit_answered, geometry_kept}
-use Rattle.laid_index.proofs.Indexing.{IsFresh, fresh_ready, fresh_taken, index_laid, leaves_in_order}
+use Rattle.laid_index.proofs.Answering.{answered_err, answered_memory, answered_none, answered_ok, exit_answered, geometry_kept}
+use Rattle.laid_index.proofs.Begun.{IsBegun, begun_answered, closed_answered, last_leb_in}
+use Rattle.laid_index.proofs.Indexing.{IsFresh, fresh_ready, index_laid, leaves_in_order}
 use Rattle.laid_index.proofs.laying.lay_leaves.Goals as goal
 
 pub returns-in_err-branches-clause-answer : goal.returns-in_err-branches-clause-answer
@@ -62,26 +63,17 @@ lay_levels-requires-clause-high g c =
 pub returns-in_err-root-clause-answer : goal.returns-in_err-root-clause-answer
 returns-in_err-root-clause-answer g c =
     let geo = raw_of c.args.geometry.now in
-    let f = geo.fanout in
     let xs = c.args.leaves.now in
-    let n = length xs in
     let start = c.in_ok-leb.leb in
     let made = c.in_ok-leb.ensures in
-    let fresh : IsFresh c.args.first c.args.sqnum start = record { begins = made.first; used = made.used; bytes = made.bytes; number = made.sqnum } in
+    let begun : IsBegun xs c.args.first c.args.sqnum start c.as_slice.result.now =
+    record { fresh = record { begins = made.first; used = made.used; bytes = made.bytes; number = made.sqnum }; branches_are = c.as_slice.ensures.value ∙ c.in_ok-branches.ensures } in
     let a = g.V.Volume.state c.args.volume.now in
     let b = g.V.Volume.state c.lay_levels.new.volume in
-    let s = c.as_slice.result.now in
-    let s_is : s ≡ map branch_to xs = c.as_slice.ensures.value ∙ c.in_ok-branches.ensures in
-    let e : length s ≡ n = ap length s_is ∙ length-map xs branch_to in
-    let lens = lens_above (length s) f (length s) in
-    let taken : length (taken_after geo start lens) ≡ length (index_used geo n) =
-    ap length (fresh_taken geo c.args.first c.args.sqnum start lens fresh) ∙ ap (λ (m : ℕ). length (packed geo.leb_size 0 (lens_above m f m))) e in
-    let end = start.first + length (taken_after geo start lens) in
-    let last = c.args.first + length (index_used geo n) in
-    let from = made.first in
+    let last = c.args.first + length (index_used geo (length xs)) in
     exit_answered c.args.first last a b c.in_err-root.field-0.0 c.from_residual-in_err-root.result c.from_residual-in_err-root.ensures.1
     (answered_err c.args.first last a b c.in_err-root.field-0.0
-    (answered_wider start.first end c.args.first last a b (Err c.in_err-root.field-0.0) (omega (arith, from)) (omega (arith, from, taken)) c.in_err-root.ensures.answer))
+    (begun_answered geo xs c.args.first c.args.sqnum start c.as_slice.result.now a b (Err c.in_err-root.field-0.0) begun c.in_err-root.ensures.answer))
 
 pub close-requires-clause-geometry : goal.close-requires-clause-geometry
 close-requires-clause-geometry g c = geometry_kept (raw_of c.args.geometry.now) (g.V.Volume.state c.args.volume.now) (g.V.Volume.state c.lay_levels.new.volume) c.requires.geometry c.in_ok-root.ensures.answer.shape
@@ -92,83 +84,46 @@ close-requires-clause-fits g c = c.in_ok-root.ensures.crowned.is_open.fits
 pub close-requires-clause-lnum : goal.close-requires-clause-lnum
 close-requires-clause-lnum g c =
     let geo = raw_of c.args.geometry.now in
-    let f = geo.fanout in
     let xs = c.args.leaves.now in
-    let n = length xs in
     let start = c.in_ok-leb.leb in
     let made = c.in_ok-leb.ensures in
-    let fresh : IsFresh c.args.first c.args.sqnum start = record { begins = made.first; used = made.used; bytes = made.bytes; number = made.sqnum } in
+    let begun : IsBegun xs c.args.first c.args.sqnum start c.as_slice.result.now =
+    record { fresh = record { begins = made.first; used = made.used; bytes = made.bytes; number = made.sqnum }; branches_are = c.as_slice.ensures.value ∙ c.in_ok-branches.ensures } in
     let a = g.V.Volume.state c.args.volume.now in
     let b = g.V.Volume.state c.lay_levels.new.volume in
-    let s = c.as_slice.result.now in
-    let s_is : s ≡ map branch_to xs = c.as_slice.ensures.value ∙ c.in_ok-branches.ensures in
-    let e : length s ≡ n = ap length s_is ∙ length-map xs branch_to in
-    let lens = lens_above (length s) f (length s) in
-    let taken : length (taken_after geo start lens) ≡ length (index_used geo n) =
-    ap length (fresh_taken geo c.args.first c.args.sqnum start lens fresh) ∙ ap (λ (m : ℕ). length (packed geo.leb_size 0 (lens_above m f m))) e in
-    let end = start.first + length (taken_after geo start lens) in
-    let last = c.args.first + length (index_used geo n) in
-    let from = made.first in
-    let leb = c.lay_levels.new.leb in
-    let crowned = c.in_ok-root.ensures.crowned in
-    let first = crowned.first in
-    let all = ap length crowned.after in
-    let size = length_push leb.used.items (length leb.bytes.items) in
+    let inside = last_leb_in geo xs c.args.first c.args.sqnum start c.lay_levels.new.leb c.as_slice.result.now c.in_ok-root.root a.holds b.holds begun c.in_ok-root.ensures.crowned in
+    let high = inside.1 in
     let room = c.requires.room in
-    omega (arith, first, all, size, room, taken, from)
+    omega (arith, high, room)
 
 pub returns-in_err-close-clause-answer : goal.returns-in_err-close-clause-answer
 returns-in_err-close-clause-answer g c =
     let geo = raw_of c.args.geometry.now in
-    let f = geo.fanout in
     let xs = c.args.leaves.now in
-    let n = length xs in
     let start = c.in_ok-leb.leb in
     let made = c.in_ok-leb.ensures in
-    let fresh : IsFresh c.args.first c.args.sqnum start = record { begins = made.first; used = made.used; bytes = made.bytes; number = made.sqnum } in
+    let begun : IsBegun xs c.args.first c.args.sqnum start c.as_slice.result.now =
+    record { fresh = record { begins = made.first; used = made.used; bytes = made.bytes; number = made.sqnum }; branches_are = c.as_slice.ensures.value ∙ c.in_ok-branches.ensures } in
     let a = g.V.Volume.state c.args.volume.now in
     let b = g.V.Volume.state c.lay_levels.new.volume in
-    let s = c.as_slice.result.now in
-    let s_is : s ≡ map branch_to xs = c.as_slice.ensures.value ∙ c.in_ok-branches.ensures in
-    let e : length s ≡ n = ap length s_is ∙ length-map xs branch_to in
-    let lens = lens_above (length s) f (length s) in
-    let taken : length (taken_after geo start lens) ≡ length (index_used geo n) =
-    ap length (fresh_taken geo c.args.first c.args.sqnum start lens fresh) ∙ ap (λ (m : ℕ). length (packed geo.leb_size 0 (lens_above m f m))) e in
-    let end = start.first + length (taken_after geo start lens) in
-    let last = c.args.first + length (index_used geo n) in
-    let from = made.first in
     let leb = c.lay_levels.new.leb in
     let d = g.V.Volume.state c.close.new.volume in
-    let crowned = c.in_ok-root.ensures.crowned in
-    let first = crowned.first in
-    let all = ap length crowned.after in
-    let size = length_push leb.used.items (length leb.bytes.items) in
-    let well = answered_wider start.first end c.args.first last a b (Ok c.in_ok-root.root) (omega (arith, from)) (omega (arith, from, taken)) c.in_ok-root.ensures.answer in
-    exit_answered c.args.first last a d c.in_err-close.field-0.0 c.from_residual-in_err-close.result c.from_residual-in_err-close.ensures.1
-    (answered_then c.args.first last a b d c.in_ok-root.root (Err c.in_err-close.field-0.0) well
-    (answered_err c.args.first last b d c.in_err-close.field-0.0
-    (answered_wider (open_lnum leb) (open_lnum leb + 1) c.args.first last b d (Err c.in_err-close.field-0.0) (omega (arith, first, from)) (omega (arith, first, all, size, taken, from)) c.in_err-close.ensures.answer)))
+    let fault = c.in_err-close.field-0.0 in
+    exit_answered c.args.first (c.args.first + length (index_used geo (length xs))) a d fault c.from_residual-in_err-close.result c.from_residual-in_err-close.ensures.1
+    (closed_answered geo xs c.args.first c.args.sqnum start leb c.as_slice.result.now c.in_ok-root.root a b d (Err fault) begun c.in_ok-root.ensures.crowned c.in_ok-root.ensures.answer
+    (answered_err (open_lnum leb) (open_lnum leb + 1) b d fault c.in_err-close.ensures.answer))
 
 pub returns-clause-laid : goal.returns-clause-laid
 returns-clause-laid g c =
     let geo = raw_of c.args.geometry.now in
     let f = geo.fanout in
     let xs = c.args.leaves.now in
-    let n = length xs in
     let start = c.in_ok-leb.leb in
     let made = c.in_ok-leb.ensures in
     let fresh : IsFresh c.args.first c.args.sqnum start = record { begins = made.first; used = made.used; bytes = made.bytes; number = made.sqnum } in
     let a = g.V.Volume.state c.args.volume.now in
     let b = g.V.Volume.state c.lay_levels.new.volume in
-    let s = c.as_slice.result.now in
-    let s_is : s ≡ map branch_to xs = c.as_slice.ensures.value ∙ c.in_ok-branches.ensures in
-    let e : length s ≡ n = ap length s_is ∙ length-map xs branch_to in
-    let lens = lens_above (length s) f (length s) in
-    let taken : length (taken_after geo start lens) ≡ length (index_used geo n) =
-    ap length (fresh_taken geo c.args.first c.args.sqnum start lens fresh) ∙ ap (λ (m : ℕ). length (packed geo.leb_size 0 (lens_above m f m))) e in
-    let end = start.first + length (taken_after geo start lens) in
-    let last = c.args.first + length (index_used geo n) in
-    let from = made.first in
+    let s_is : c.as_slice.result.now ≡ map branch_to xs = c.as_slice.ensures.value ∙ c.in_ok-branches.ensures in
     let leb = c.lay_levels.new.leb in
     let shut = c.close.new.self in
     let d = g.V.Volume.state c.close.new.volume in
@@ -185,30 +140,14 @@ returns-clause-laid g c =
 pub returns-clause-answer : goal.returns-clause-answer
 returns-clause-answer g c =
     let geo = raw_of c.args.geometry.now in
-    let f = geo.fanout in
     let xs = c.args.leaves.now in
-    let n = length xs in
     let start = c.in_ok-leb.leb in
     let made = c.in_ok-leb.ensures in
-    let fresh : IsFresh c.args.first c.args.sqnum start = record { begins = made.first; used = made.used; bytes = made.bytes; number = made.sqnum } in
+    let begun : IsBegun xs c.args.first c.args.sqnum start c.as_slice.result.now =
+    record { fresh = record { begins = made.first; used = made.used; bytes = made.bytes; number = made.sqnum }; branches_are = c.as_slice.ensures.value ∙ c.in_ok-branches.ensures } in
     let a = g.V.Volume.state c.args.volume.now in
     let b = g.V.Volume.state c.lay_levels.new.volume in
-    let s = c.as_slice.result.now in
-    let s_is : s ≡ map branch_to xs = c.as_slice.ensures.value ∙ c.in_ok-branches.ensures in
-    let e : length s ≡ n = ap length s_is ∙ length-map xs branch_to in
-    let lens = lens_above (length s) f (length s) in
-    let taken : length (taken_after geo start lens) ≡ length (index_used geo n) =
-    ap length (fresh_taken geo c.args.first c.args.sqnum start lens fresh) ∙ ap (λ (m : ℕ). length (packed geo.leb_size 0 (lens_above m f m))) e in
-    let end = start.first + length (taken_after geo start lens) in
-    let last = c.args.first + length (index_used geo n) in
-    let from = made.first in
     let leb = c.lay_levels.new.leb in
     let d = g.V.Volume.state c.close.new.volume in
-    let crowned = c.in_ok-root.ensures.crowned in
-    let first = crowned.first in
-    let all = ap length crowned.after in
-    let size = length_push leb.used.items (length leb.bytes.items) in
-    let well = answered_wider start.first end c.args.first last a b (Ok c.in_ok-root.root) (omega (arith, from)) (omega (arith, from, taken)) c.in_ok-root.ensures.answer in
-    answered_then c.args.first last a b d c.in_ok-root.root (Ok _) well
-    (answered_ok c.args.first last b d c.in_ok-close.field-0 _
-    (answered_wider (open_lnum leb) (open_lnum leb + 1) c.args.first last b d (Ok c.in_ok-close.field-0) (omega (arith, first, from)) (omega (arith, first, all, size, taken, from)) c.in_ok-close.ensures.answer))
+    closed_answered geo xs c.args.first c.args.sqnum start leb c.as_slice.result.now c.in_ok-root.root a b d (Ok _) begun c.in_ok-root.ensures.crowned c.in_ok-root.ensures.answer
+    (answered_ok (open_lnum leb) (open_lnum leb + 1) b d c.in_ok-close.field-0 _ c.in_ok-close.ensures.answer)

@@ -1,5 +1,5 @@
+use Rattle.sound_image.specs.ContentsLaws.{contents_bytes}
 use Rattle.leaf_check.proofs.Firsts.{some_placed}
-use Rattle.leaf_check.proofs.Kept.{contents_bytes}
 use Rattle.leaf_check.proofs.first.first_breach.Goals as goal
 
 pub returns-clause-some : goal.returns-clause-some

@@ -1,7 +1,7 @@
 use Rattle.std.proofs.Common.{sym, ◌∙◌}
 use Rattle.ubifs_base.specs.RawOf.{raw_of}
+use Rattle.sound_image.specs.ContentsLaws.{contents_bytes}
 use Rattle.leaf_check.proofs.CommittedLeaves.{none_at, some_at}
-use Rattle.leaf_check.proofs.Kept.{contents_bytes}
 use Rattle.leaf_check.proofs.SoundLeaves.{read_sound, sound_read, sound_whole, whole_of_read}
 use Rattle.leaf_check.proofs.sound.is_sound.Goals as goal
 

@@ -2,7 +2,8 @@ use Rattle.std.proofs.Common.{◌+◌, sym, ◌∙◌, arith}
 use Rattle.ubifs_base.specs.RawOf.{raw_of}
 use Rattle.ubi_volume.specs.FaultLaws.{HasAreaCause-before}
 use Rattle.media_sys.specs.SystemNode.{superblock, written}
-use Rattle.made_image.proofs.Chained.{all_bytes, finished, main_so_far, main_stays, masters_blank, sure_then}
+use Rattle.sound_image.specs.ContentsLaws.{contents_bytes}
+use Rattle.made_image.proofs.Chained.{finished, main_so_far, main_stays, masters_blank, sure_then}
 use Rattle.made_image.proofs.finishing.finish_image.Goals as goal
 
 pub returns-clause-made : goal.returns-clause-made
@@ -18,7 +19,7 @@ returns-clause-made g c =
     finished geo c.args.geometry.now.in_range s0 s1 s2 s3 c.lay_properties.ensures.others c.lay_areas.ensures.others c.write_superblock.ensures.works
     c.requires.small c.args.main.now c.requires.filled c.args.sqnum c.requires.number c.args.uuid.now c.requires.blank
     c.in_ok-master.master c.in_ok-master.ensures.laid c.in_ok-lay_areas.ensures.laid
-    (all_bytes s3.holds s3.leb_cnt (g.met.V.Volume.leb_bytes c.write_superblock.new.volume) (g.met.V.Volume.none c.write_superblock.new.volume))
+    (contents_bytes s3 (g.met.V.Volume.leb_bytes c.write_superblock.new.volume) (g.met.V.Volume.none c.write_superblock.new.volume))
     (λ lnum low. g.met.V.Volume.leb_len c.write_superblock.new.volume lnum (omega (arith, low, count, most)) ∙ size ∙ sym c.requires.geometry.leb_size)
     c.what_is_written_meets_the_rules.ensures.none c.what_is_written_meets_the_rules.ensures.properties
     (record {

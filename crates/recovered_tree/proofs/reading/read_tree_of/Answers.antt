@@ -4,7 +4,8 @@ use Rattle.ubi_volume.specs.Faults.{HasAreaCause, StaysSureArea}
 use Rattle.ubi_volume.specs.declared.fault.AreaFault.{AreaFault}
 use Rattle.sound_image.specs.Sound.{SoundImage}
 use Rattle.sound_check.specs.Reads.{IsReadImage}
-use Rattle.recovered_tree.proofs.Kept.{contents_bytes, exit_reads, kept_check, kept_holds, reads_memory, reads_ok, reads_volume}
+use Rattle.sound_image.specs.ContentsLaws.{contents_bytes}
+use Rattle.recovered_tree.proofs.Kept.{exit_reads, kept_check, kept_holds, reads_memory, reads_ok, reads_volume}
 use Rattle.recovered_tree.proofs.reading.read_tree_of.Goals as goal
 
 pub returns-in_err-read-clause-reads : goal.returns-in_err-read-clause-reads

@@ -5,11 +5,12 @@ use Rattle.leaf_map.specs.Kept.{Placed}
 use Rattle.leaf_map.specs.Parts.{Committed, Named, Parts}
 use Rattle.journal_scan.specs.Content.{told}
 use Rattle.sound_image.specs.Leaves.{IsPlacedIn}
+use Rattle.sound_image.specs.ContentsLaws.{contents_bytes}
 use Rattle.shown_leaves.specs.Copies.{AreCommittedTold, DecidesCopy, IsOwnAmong}
 use Rattle.shown_leaves.specs.Stored.{leaf_node}
 use Rattle.shown_leaves.proofs.CopiedNodes.{lost_copy, no_copy, node_there, own_copy, rank_is, read_kept}
 use Rattle.shown_leaves.proofs.JudgedLeaves.{some_same}
-use Rattle.shown_leaves.proofs.Stored.{contents_bytes, ok_map}
+use Rattle.shown_leaves.proofs.Stored.{ok_map}
 use Rattle.shown_leaves.proofs.copies.is_copy.Goals as goal
 
 pub returns-in_default-clause-copy : goal.returns-in_default-clause-copy

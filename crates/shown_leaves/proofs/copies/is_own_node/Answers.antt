@@ -4,11 +4,11 @@ use Rattle.index_tree.specs.Order.{leaf_rank}
 use Rattle.index_tree.specs.declared.leaf.Leaf.{Leaf}
 use Rattle.log_replay.specs.declared.committed_leaf.CommittedLeaf.{CommittedLeaf}
 use Rattle.sound_image.specs.Image.{named_by_ref_node}
+use Rattle.sound_image.specs.ContentsLaws.{contents_bytes}
 use Rattle.shown_leaves.specs.Copies.{has_own_told}
 use Rattle.shown_leaves.specs.Sources.{bytes_of}
 use Rattle.shown_leaves.specs.Stored.{IsStoredIn, leaf_node}
 use Rattle.shown_leaves.proofs.CopiedNodes.{has_own, not_there, own_if}
-use Rattle.shown_leaves.proofs.Stored.{contents_bytes}
 use Rattle.shown_leaves.proofs.copies.is_own_node.Goals as goal
 
 pub returns-in_default-clause-own : goal.returns-in_default-clause-own

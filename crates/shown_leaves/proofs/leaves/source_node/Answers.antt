@@ -1,10 +1,11 @@
 use Rattle.leaf_map.specs.Kept.{Kept}
+use Rattle.sound_image.specs.ContentsLaws.{contents_bytes}
 use Rattle.shown_leaves.specs.Sources.{IsSourced}
 use Rattle.shown_leaves.specs.Stored.{IsStoredIn, leaf_node}
 use Rattle.std.proofs.Common.{◌≡◌, Some}
 use Rattle.std.specs.Option.{option_map}
 use Rattle.shown_leaves.proofs.JudgedLeaves.{bytes_from, source_is}
-use Rattle.shown_leaves.proofs.Stored.{contents_bytes, ok_map}
+use Rattle.shown_leaves.proofs.Stored.{ok_map}
 use Rattle.shown_leaves.proofs.leaves.source_node.Goals as goal
 
 pub returns-clause-node : goal.returns-clause-node

@@ -1,9 +1,9 @@
 use Rattle.std.proofs.Common.{subst}
 use Rattle.std.proofs.lemmas.Bool.{false≢true}
+use Rattle.sound_image.specs.ContentsLaws.{contents_bytes}
 use Rattle.shown_leaves.specs.Sources.{bytes_of}
 use Rattle.shown_leaves.specs.Stored.{IsStoredIn}
 use Rattle.shown_leaves.proofs.JudgedLeaves.{stands_if, stands_not}
-use Rattle.shown_leaves.proofs.Stored.{contents_bytes}
 use Rattle.shown_leaves.proofs.leaves.stands_there.Goals as goal
 
 pub returns-in_default-clause-stands : goal.returns-in_default-clause-stands

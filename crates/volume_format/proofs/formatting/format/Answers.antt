@@ -1,19 +1,10 @@
-use Rattle.std.proofs.Common.{◌≡◌, ℕ, ◌<◌, ◌≤◌, nat_lt, Bool, true, false, List, [], sym, subst, refl, arith}
-use Rattle.std.proofs.lemmas.Bool.{ltb-false, ltb-true}
-use Rattle.ubifs_base.specs.NodeLaws.{IsBytes}
+use Rattle.std.proofs.Common.{arith}
 use Rattle.ubifs_base.specs.RawOf.{raw_of}
 use Rattle.ubi_volume.specs.FaultLaws.{HasAreaCause-before}
 use Rattle.media_sys.specs.SystemNode.{superblock, written}
+use Rattle.sound_image.specs.ContentsLaws.{contents_bytes}
 use Rattle.volume_format.proofs.Formatted.{formatted, sure_then}
 use Rattle.volume_format.proofs.formatting.format.Goals as goal
-
--- each LEB has bytes, and one that isn't there has none
-all_bytes : (holds : ℕ → List ℕ) (count : ℕ) → ((lnum : ℕ) → lnum < count → IsBytes (holds lnum)) → ((lnum : ℕ) → count ≤ lnum → holds lnum ≡ []) → (lnum : ℕ) → IsBytes (holds lnum)
-all_bytes holds count some none lnum = by (nat_lt lnum count) refl
-  where
-    by : (b : Bool) → nat_lt lnum count ≡ b → IsBytes (holds lnum)
-    by true e = some lnum (ltb-true lnum count e)
-    by false e = let P : List ℕ → Type 0 = IsBytes in subst P (sym (none lnum (ltb-false lnum count e))) (λ i. ltb-true 0 256 refl)
 
 pub returns-clause-made : goal.returns-clause-made
 returns-clause-made g c =
@@ -24,7 +15,7 @@ returns-clause-made g c =
     let s3 = g.V.Volume.state c.write_superblock.new.volume in
     formatted geo c.args.geometry.now.in_range c.requires.small c.requires.three c.args.now c.args.uuid.now c.in_ok-at.at s0 s1 s2 s3 c.requires.geometry.leb_cnt c.requires.unwritten
     c.in_ok-at.ensures.laid c.in_ok-lay_areas.ensures.laid c.write_superblock.ensures.works
-    (all_bytes s3.holds s3.leb_cnt (g.met.V.Volume.leb_bytes c.write_superblock.new.volume) (g.met.V.Volume.none c.write_superblock.new.volume))
+    (contents_bytes s3 (g.met.V.Volume.leb_bytes c.write_superblock.new.volume) (g.met.V.Volume.none c.write_superblock.new.volume))
     c.what_is_written_meets_the_rules.ensures.properties c.what_is_written_meets_the_rules.ensures.none (record { sound = c.a_laid_image_is_sound.ensures.sound; tree = c.a_laid_image_is_sound.ensures.tree })
     (written 6 0 (superblock c.new_superblock-node.result)) c.new_superblock-node.result c.write_superblock.result c.new_superblock-node.ensures c.write_superblock.ensures.done
 

@@ -5,7 +5,7 @@ use Rattle.std.proofs.lemmas.Bool.{cases_lt}
 use Rattle.ubifs_base.specs.NodeLaws.{IsBytes}
 use Rattle.ubi_volume.specs.Volume.{VolumeState}
 
--- a volume's contents are bytes
+-- each LEB that it has is of bytes, and another one has none
 pub contents_bytes : (s : VolumeState) → ((k : ℕ) → k < s.leb_cnt → IsBytes (s.holds k)) → ((k : ℕ) → s.leb_cnt ≤ k → s.holds k ≡ []) → (k : ℕ) → IsBytes (s.holds k)
 contents_bytes s bytes none k = elim (cases_lt k s.leb_cnt) [
   | inl less ↦ bytes k less
