@@ -7,11 +7,12 @@
 #![tactic(auto)]
 
 mod breach;
+mod geometry_field;
 mod laws;
 mod rule;
-mod super_field;
 
 pub use crate::breach::Breach;
+pub use crate::geometry_field::super_field;
 pub use crate::laws::{
     a_bud_of_plain_nodes_is_sound, a_first_breach_is_one, a_fresh_log_meets_the_rule,
     a_log_that_was_read_meets_the_rule, a_mount_can_read_a_sound_image, contents_say_one_thing,
@@ -22,4 +23,3 @@ pub use crate::laws::{
     what_is_written_meets_the_rules, what_was_read_stands,
 };
 pub use crate::rule::Rule;
-pub use crate::super_field::super_field;
