@@ -30,10 +30,14 @@ use Rattle.plain_backing.specs.Cells.{seen_cells, has_cell, KeepsCells}
 use Rattle.fs_model.specs.Cover.{entry_bytes, round_8, inode_bytes, block_bytes, tree_bytes}
 use Rattle.fs_model.specs.Orphan.{nameless}
 use Rattle.plain_backing.specs.Orphans.{orphans_in}
-use Rattle.fs_model.specs.Change.{applied, cut_blocks, without_blocks}
+use Rattle.fs_laws.specs.Maps.{set_here}
+use Rattle.fs_laws.specs.Orders.{numbers}
+use Rattle.fs_model.specs.Backing.{page_group}
+use Rattle.fs_model.specs.Change.{applied, apply, cut_blocks, without_blocks}
+use Rattle.fs_model.specs.declared.page_node.PageNode.{PageNode}
 use Rattle.fs_model.specs.Files.{Tree, Inodes, Blocks, Entries, pair_cmp, name_cmp, with_block}
 use Rattle.plain_backing.specs.TreeCells.{entry_of, entries_of_names, tree_of_cells, set_bytes, HasCellRoom, AreCellsCounted, KeepsRoom, Makes}
-use Rattle.plain_backing.proofs.Seen.{seen-put, seen-emptied, sorted-seen, has-same}
+use Rattle.plain_backing.proofs.Seen.{seen-put, seen-inserted, seen-emptied, sorted-seen, has-same}
 
 pub name_cmp-total : IsTotalOrder name_cmp
 name_cmp-total = then_total (on_total (λ p. p.0) nat_cmp_total) (on_total (λ p. p.1) nat_list_cmp_total)
@@ -58,6 +62,13 @@ pub set_counts : {K V : Type 0} {cmp : K → K → Ordering} → IsTotalOrder cm
     → sum_by w (values_of (seen_cells new)) + unwrap_or (option_map w old) 0 ≡ sum_by w (values_of (seen_cells cells)) + w v
 set_counts {cmp = cmp} o exact w cells new k v old s h e f =
     rw (e, f, seen-put o exact cells k v s h) (sum_by-insert_entry w o (seen_cells cells) k v (sorted-seen cmp cells s))
+
+-- the same of a value that is inserted with its cell
+pub insert_counts : {K V : Type 0} {cmp : K → K → Ordering} → IsTotalOrder cmp → CmpEqualImpliesEq cmp → (w : V → ℕ) (cells new : List (K × Option V)) (k : K) (v : V) (old : Option V) → IsStrictlySortedBy cmp (keys_of cells)
+    → new ≡ insert_entry cmp cells k (Some v) → old ≡ lookup (is_at (cmp k)) (seen_cells cells)
+    → sum_by w (values_of (seen_cells new)) + unwrap_or (option_map w old) 0 ≡ sum_by w (values_of (seen_cells cells)) + w v
+insert_counts {cmp = cmp} o exact w cells new k v old s e f =
+    rw (e, f, seen-inserted o exact cells k v s) (sum_by-insert_entry w o (seen_cells cells) k v (sorted-seen cmp cells s))
 
 -- a value less
 pub drop_counts : {K V : Type 0} {cmp : K → K → Ordering} → IsTotalOrder cmp → (w : V → ℕ) (cells new : List (K × Option V)) (k : K) (old : Option V) → IsStrictlySortedBy cmp (keys_of cells)
@@ -168,6 +179,16 @@ entry_dropped c m dir name r old size freed h same s told there is gone counted 
 pub block_set : (c : TreeCells) (ino block h : ℕ) (bytes : List ℕ) (bs : Blocks) → is_some (lookup (is_at (nat_cmp ino)) (seen_cells c.inodes.entries)) ≡ true → bs ≡ with_block (seen_cells c.blocks.entries) ino block bytes → h ≡ max c.highest ino
     → ◌≡◌ {A = Tree} (record { inodes = seen_cells c.inodes.entries; blocks = bs; entries = entries_of_names (seen_cells c.entries.entries); highest = h }) (applied (tree_of_cells c) (SetBlock ino block bytes))
 block_set c ino block h bytes bs there is top = rw there (tree_same _ _ _ _ _ _ _ _ refl is refl top)
+
+-- a block and then its inode, where the group has the inode in front
+pub page_set : (old was mid new : Tree) (page : PageNode) (inode : Inode) (bytes : List ℕ) → inode ≡ page.inode → bytes ≡ page.bytes → was ≡ old → mid ≡ record was { blocks = with_block was.blocks page.ino page.block bytes }
+    → new ≡ applied mid (SetInode page.ino inode) → new ≡ apply old (page_group page)
+page_set old was mid new page inode bytes i b w m n =
+    let set : Tree → Inode → List ℕ → Tree = λ t i b. applied (record t { blocks = with_block t.blocks page.ino page.block b }) (SetInode page.ino i) in
+    let here : is_some (lookup (is_at (nat_cmp page.ino)) (insert_entry nat_cmp old.inodes page.ino page.inode)) ≡ true = ap is_some (set_here nat_cmp numbers old.inodes page.ino page.inode) in
+    let top : max old.highest page.ino ≡ max (max old.highest page.ino) page.ino = omega arith in
+    n ∙ ap (λ t. applied t (SetInode page.ino inode)) m ∙ ap (λ t. set t inode bytes) w ∙ ap (λ i. set old i bytes) i ∙ ap (λ b. set old page.inode b) b
+    ∙ rw here (tree_same _ _ _ _ _ _ _ _ refl refl refl top)
 
 pub held_there : {V : Type 0} (o : Option (Bor V)) (found : Option V) (none : Bool) → option_copied o ≡ found → is_some o ≡ not none → none ≡ false → is_some found ≡ true
 held_there None found none e n h = absurd (false≢true (n ∙ ap not h))

@@ -112,6 +112,23 @@ seen-put {K} {V} {cmp} o exact (c ∷ cells) k v s h =
     by more above Greater e None h = more h
     by more above Greater e (Some w) h = rw e (ap (λ xs. (c.0, w) ∷ xs) (more h))
 
+-- a value that is inserted with its cell is inserted
+pub seen-inserted : {K V : Type 0} {cmp : K → K → Ordering} → IsTotalOrder cmp → CmpEqualImpliesEq cmp → (cells : List (K × Option V)) (k : K) (v : V) → IsStrictlySortedBy cmp (keys_of cells)
+    → seen_cells (insert_entry cmp cells k (Some v)) ≡ insert_entry cmp (seen_cells cells) k v
+seen-inserted o exact [] k v s = refl
+seen-inserted {K} {V} {cmp} o exact (c ∷ cells) k v s =
+    by (seen-inserted o exact cells k v (sorted_tail cmp c.0 (keys_of cells) s)) (sorted_head cmp c.0 (keys_of cells) s) (cmp k c.0) refl c.1
+  where
+    by : seen_cells (insert_entry cmp cells k (Some v)) ≡ insert_entry cmp (seen_cells cells) k v → Above cmp c.0 (keys_of cells) → (p : Ordering) → cmp k c.0 ≡ p → (x : Option V)
+        → seen_cells (match_ordering p ((k, Some v) ∷ (c.0, x) ∷ cells) ((c.0, Some v) ∷ cells) ((c.0, x) ∷ insert_entry cmp cells k (Some v))) ≡ insert_entry cmp (cons_option (option_map (λ w. (c.0, w)) x) (seen_cells cells)) k v
+    by more above Less e None = sym (insert-above cmp k v (seen_cells cells) (all-seen (λ y. cmp k y ≡ Less) cells (above-less o k c.0 (keys_of cells) e above)))
+    by more above Less e (Some w) = rw e refl
+    by more above Equal e None =
+        ap (λ (z : K). (z, v) ∷ seen_cells cells) (sym (exact k c.0 e)) ∙ sym (insert-above cmp k v (seen_cells cells) (all-seen (λ y. cmp k y ≡ Less) cells (above-same o k c.0 (keys_of cells) e above)))
+    by more above Equal e (Some w) = rw e refl
+    by more above Greater e None = more
+    by more above Greater e (Some w) = rw e (ap (λ xs. (c.0, w) ∷ xs) more)
+
 -- a cell that is emptied is removed
 pub seen-emptied : {K V : Type 0} {cmp : K → K → Ordering} → IsTotalOrder cmp → (cells : List (K × Option V)) (k : K) → IsStrictlySortedBy cmp (keys_of cells) → seen_cells (set_value (is_at (cmp k)) cells None) ≡ remove_entry (is_at (cmp k)) (seen_cells cells)
 seen-emptied o [] k s = refl

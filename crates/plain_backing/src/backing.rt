@@ -4,7 +4,6 @@ ghost use Rattle.std.specs.Prelude.{◌≡◌, ◌<◌, ◌≤◌, ◌^◌, ◌+
 ghost use Rattle.std.specs.Option.{option_copied};
 ghost use Rattle.fs_model.specs.declared.backing_answers.Mode.TheVariants.{ReadWrite};
 ghost use Rattle.fs_model.specs.declared.backing_answers.StoreFault.TheVariants.{Memory as NoMemory};
-ghost use Rattle.fs_model.specs.Backing.{page_group};
 ghost use Rattle.fs_model.specs.Cover.{tree_bytes};
 ghost use Rattle.plain_backing.specs.Spending.{is_spent};
 ghost use Rattle.plain_backing.specs.Story.{IsStory, HasAllGroups, is_story_idle};
@@ -23,8 +22,8 @@ use crate::story::{
 };
 use fs_laws::a_dropped_inode_keeps_trees_proper;
 use fs_model::{
-    Backing, Change, Collected, Ended, Entry, Grant, Group, Inode, Mode, Need, NoSpace, PageNode,
-    Space, Started, Stepped, StoreFault,
+    Backing, Collected, Ended, Entry, Grant, Group, Inode, Mode, Need, NoSpace, PageNode, Space,
+    Started, Stepped, StoreFault,
 };
 use space_sums::{
     more_never_lowers_the_need, what_takes_no_more_keeps_what_was_granted,
@@ -221,8 +220,7 @@ impl Backing for PlainBacking {
             return Err(StoreFault::Memory);
         }
         what_was_admitted_can_be_put();
-        let group = changes_of(self.alloc, page)?;
-        self.tree.apply(self.alloc, &group)?;
+        self.tree.set_page(page)?;
         spend_page(&mut self.numbers);
         add_page(&mut self.story, page);
         count_all(&mut self.story);
@@ -344,22 +342,4 @@ fn copy_inode(found: Option<&Inode>) -> Result<Option<Inode>, StoreFault>
         Some(inode) => Ok(Some(inode.clone()?)),
         None => Ok(None),
     }
-}
-
-// The changes of a page's two nodes.
-fn changes_of(alloc: Global, page: &PageNode) -> Result<Group, StoreFault>
-    ensures group { IfOk result (λ group. group ≡ page_group page.now) }
-    ensures fault { IfErr result (λ fault. fault ≡ NoMemory) }
-{
-    let mut group = Group::new(alloc);
-    group.push(Change::SetInode {
-        ino: page.ino,
-        inode: page.inode.clone()?,
-    })?;
-    group.push(Change::SetBlock {
-        ino: page.ino,
-        block: page.block,
-        bytes: page.bytes.clone()?,
-    })?;
-    Ok(group)
 }

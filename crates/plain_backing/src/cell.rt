@@ -1,11 +1,11 @@
 // Cells of a map: a place can be made before anything stands in it, and emptied without being taken out, so that a
 // change needs no memory once its place is there.
 
-ghost use Rattle.std.specs.Prelude.{◌≡◌, true, OnOk};
+ghost use Rattle.std.specs.Prelude.{◌≡◌, true, Some, IfOk, OnOk, OnErr};
 ghost use Rattle.std.specs.Option.{option_copied};
 ghost use Rattle.std.specs.List.Sorted.{IsStrictlySortedBy};
 ghost use Rattle.std.specs.Map.{lookup, keys_of, set_value};
-ghost use Rattle.std.specs.BTreeMap.{is_at};
+ghost use Rattle.std.specs.BTreeMap.{insert_entry, is_at};
 ghost use Rattle.plain_backing.specs.Cells.{seen_cells, has_cell, is_empty_cell, KeepsCells};
 
 use std::collections::BTreeMap;
@@ -44,6 +44,24 @@ pub(crate) fn put<K: Ord + Drop, V: Drop>(
     match map.get_mut(key) {
         Some(cell) => replace(cell, value),
         None => None,
+    }
+}
+
+/// Puts a value into the cell of a key, which is made if there is none, and answers what it held. Where there is no memory
+/// the cells are as they were.
+pub(crate) fn insert<K: Ord + Drop, V: Drop>(
+    map: &mut BTreeMap<K, Option<V>>,
+    key: K,
+    value: V,
+) -> Result<Option<V>, Memory>
+    ensures cells { OnOk result (map.new.entries ≡ insert_entry K.cmp map.old.entries key (Some value)) }
+    ensures old { IfOk result (λ old. old ≡ lookup (is_at (K.cmp key)) (seen_cells map.old.entries)) }
+    ensures ordered { IsStrictlySortedBy K.cmp (keys_of map.old.entries) }
+    ensures err { OnErr result (map.new.entries ≡ map.old.entries) }
+{
+    match map.insert(key, Some(value)) {
+        Ok(old) => Ok(old.flatten()),
+        Err(_) => Err(Memory),
     }
 }
 

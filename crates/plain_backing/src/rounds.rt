@@ -1,16 +1,19 @@
 // The three rounds in which a group is made in cells.
 
-ghost use Rattle.std.specs.Prelude.{◌≡◌, ◌+◌, ◌^◌, ◌<◌, IfOk, reverse, sum_by};
+ghost use Rattle.std.specs.Prelude.{◌≡◌, ◌+◌, ◌^◌, ◌<◌, IfOk, OnOk, OnErr, reverse, sum_by};
 ghost use Rattle.std.specs.List.{AllByRecursion};
+ghost use Rattle.fs_model.specs.Backing.{page_group};
 ghost use Rattle.fs_model.specs.Change.{apply};
 ghost use Rattle.plain_backing.specs.TreeCells.{tree_of_cells, set_bytes, AreCellsCounted, HasCellRoom};
 
-use crate::cell::sweep;
+use crate::cell::{make_cell, sweep};
 use crate::node_bytes::{block_bytes, inode_bytes, name_bytes};
-use crate::tree_cells::{TreeCells, entry_key, make, make_room, sweep_after};
-use fs_model::{Change, OrderedName};
+use crate::tree_cells::{
+    TreeCells, entry_key, insert_block, make, make_room, set_inode, sweep_after,
+};
+use fs_model::{Change, Inode, OrderedName, PageNode};
 use std::alloc::Global;
-use ubifs_base::Memory;
+use ubifs_base::{Bytes, Memory};
 
 /// No tree takes so many bytes.
 const MOST: u64 = 1 << 40;
@@ -123,4 +126,42 @@ pub(crate) fn sweep_all(cells: &mut TreeCells, keys: &[(u32, OrderedName)], chan
     for key in keys {
         sweep(&mut cells.entries, key);
     }
+}
+
+/// Makes the changes of a page's two nodes, both or none. Each value is copied once, and its block is sought once.
+pub(crate) fn set_page(cells: &mut TreeCells, page: &PageNode) -> Result<(), Memory>
+    requires few { cells.old.bytes < 2 ^ 40 }
+    requires counted { AreCellsCounted cells.old }
+    ensures ok { OnOk result (tree_of_cells cells.new ≡ apply (tree_of_cells cells.old) (page_group page.now)) }
+    ensures err { OnErr result (tree_of_cells cells.new ≡ tree_of_cells cells.old) }
+    ensures counted { AreCellsCounted cells.new }
+    ensures few { cells.new.bytes < 2 ^ 40 }
+{
+    let inode = copied_inode(&page.inode)?;
+    let bytes = copied_bytes(&page.bytes)?;
+    let total = grown(cells.bytes, inode_bytes(&inode))?;
+    grown(total, block_bytes(&bytes))?;
+    make_cell(&mut cells.inodes, page.ino)?;
+    match insert_block(cells, page.ino, page.block, bytes) {
+        Ok(()) => {
+            set_inode(cells, page.ino, inode);
+            Ok(())
+        }
+        Err(_) => {
+            sweep(&mut cells.inodes, &page.ino);
+            Err(Memory)
+        }
+    }
+}
+
+fn copied_inode(inode: &Inode) -> Result<Inode, Memory>
+    ensures { IfOk result (λ copy. copy ≡ inode.now) }
+{
+    Ok(inode.clone()?)
+}
+
+fn copied_bytes(bytes: &Bytes) -> Result<Bytes, Memory>
+    ensures { IfOk result (λ copy. copy ≡ bytes.now) }
+{
+    Ok(bytes.clone()?)
 }

@@ -2,6 +2,7 @@
 
 ghost use Rattle.std.specs.Prelude.{◌≡◌, ◌<◌, ◌≤◌, ◌^◌, ◌==◌, IfOk, OnOk, OnErr, filter, length, []};
 ghost use Rattle.std.specs.Option.{option_copied, option_map};
+ghost use Rattle.fs_model.specs.Backing.{page_group};
 ghost use Rattle.fs_model.specs.Change.{apply, without_inode};
 ghost use Rattle.fs_model.specs.Orphan.{nameless};
 ghost use Rattle.fs_model.specs.Cover.{tree_bytes};
@@ -14,11 +15,11 @@ ghost use Rattle.fs_model.specs.Files.{last_block_of};
 ghost use Rattle.fs_model.specs.Proper.{IsInOrder};
 
 use crate::cell::held;
-use crate::rounds::{make_all, prepare, sweep_all};
+use crate::rounds::{make_all, prepare, set_page, sweep_all};
 use crate::tree_cells::{Named, TreeCells, drop_inode, entry_key, sweep_inode};
 use crate::tree_reads::{entries_in, last_block};
 use crate::tree_rows::{BlockRows, InodeRows};
-use fs_model::{Entry, Group, Inode, OrderedName};
+use fs_model::{Entry, Group, Inode, OrderedName, PageNode};
 use std::alloc::Global;
 use std::collections::BTreeMap;
 use std::marker::Model;
@@ -81,6 +82,15 @@ impl Tree {
                 Err(Memory)
             }
         }
+    }
+
+    /// Makes the changes of a page's two nodes, as `apply` makes a group of them.
+    pub(crate) fn set_page(&mut self, page: &PageNode) -> Result<(), Memory>
+        ensures ok { OnOk result (self.new ≡ apply self.old (page_group page.now)) }
+        ensures err { OnErr result (self.new ≡ self.old) }
+        ensures few { tree_bytes self.new < 2 ^ 40 }
+    {
+        set_page(&mut self.cells, page)
     }
 
     /// The inode of a number.

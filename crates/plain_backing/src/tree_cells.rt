@@ -1,17 +1,17 @@
 // A tree in cells. A group of changes is made in three rounds: its cells are made and its values copied, which may want
 // memory and changes nothing that is seen; then it changes cells, which wants none; then the empty cells are swept.
 
-ghost use Rattle.std.specs.Prelude.{◌≡◌, ◌+◌, ◌^◌, ◌<◌, ℕ, true, OnOk, IfOk, is_some, if◌then◌else◌};
+ghost use Rattle.std.specs.Prelude.{◌≡◌, ◌+◌, ◌^◌, ◌<◌, ◌≤◌, ℕ, true, OnOk, OnErr, IfOk, is_some, if◌then◌else◌};
 ghost use Rattle.std.specs.Ordering.{nat_cmp};
 ghost use Rattle.fs_model.specs.declared.change.Change.TheVariants.{SetInode, SetEntry, DropEntry, SetBlock, CutBlocks, DropInode};
 ghost use Rattle.plain_backing.specs.Cells.{has_cell};
 ghost use Rattle.fs_model.specs.Change.{applied};
 ghost use Rattle.fs_model.specs.Cover.{inode_bytes, block_bytes, entry_bytes};
-ghost use Rattle.fs_model.specs.Files.{pair_cmp, name_cmp};
+ghost use Rattle.fs_model.specs.Files.{pair_cmp, name_cmp, with_block};
 ghost use Rattle.plain_backing.specs.TreeCells.{tree_of_cells, set_bytes, AreCellsCounted, HasCellRoom, KeepsRoom, Makes};
 
 use crate::block_walk::{clear_blocks, sweep_blocks};
-use crate::cell::{held, make_cell, put, sweep};
+use crate::cell::{held, insert, make_cell, put, sweep};
 use crate::node_bytes::{
     block_bytes, freed_block, freed_inode, freed_orphans, inode_bytes, name_bytes, orphans_in,
 };
@@ -59,7 +59,8 @@ pub(crate) fn make(cells: &mut TreeCells, change: Change)
     }
 }
 
-fn set_inode(cells: &mut TreeCells, ino: u32, inode: Inode)
+/// Sets an inode whose cell is there. Takes no memory.
+pub(crate) fn set_inode(cells: &mut TreeCells, ino: u32, inode: Inode)
     requires room { has_cell nat_cmp cells.old.inodes.entries ino ≡ true }
     requires fits { cells.old.bytes + inode_bytes inode < 2 ^ 64 }
     requires counted { AreCellsCounted cells.old }
@@ -123,6 +124,27 @@ fn set_block(cells: &mut TreeCells, ino: u32, block: u32, bytes: Bytes)
     let added = block_bytes(&bytes);
     let old = put(&mut cells.blocks, &(ino, block), Some(bytes));
     cells.bytes = cells.bytes + added - freed_block(&old);
+}
+
+/// Inserts a block, whether or not its inode is there. Where there is no memory the cells are as they were.
+pub(crate) fn insert_block(
+    cells: &mut TreeCells,
+    ino: u32,
+    block: u32,
+    bytes: Bytes,
+) -> Result<(), Memory>
+    requires fits { cells.old.bytes + block_bytes bytes < 2 ^ 64 }
+    requires counted { AreCellsCounted cells.old }
+    ensures ok { OnOk result (tree_of_cells cells.new ≡ record (tree_of_cells cells.old) { blocks = with_block (tree_of_cells cells.old).blocks ino block bytes }) }
+    ensures err { OnErr result (tree_of_cells cells.new ≡ tree_of_cells cells.old) }
+    ensures counted { AreCellsCounted cells.new }
+    ensures bytes { cells.new.bytes ≤ cells.old.bytes + block_bytes bytes }
+    ensures inodes { cells.new.inodes.entries ≡ cells.old.inodes.entries }
+{
+    let added = block_bytes(&bytes);
+    let old = insert(&mut cells.blocks, (ino, block), bytes)?;
+    cells.bytes = cells.bytes + added - freed_block(&old);
+    Ok(())
 }
 
 fn cut_blocks(cells: &mut TreeCells, ino: u32, size: u64)

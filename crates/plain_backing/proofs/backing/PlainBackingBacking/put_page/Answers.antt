@@ -1,6 +1,4 @@
-use Rattle.std.proofs.Common.{◌≡◌, List, subst, ap, ◌∙◌}
-use Rattle.fs_model.specs.declared.change.Change.{Change}
-use Rattle.fs_model.specs.Change.{apply}
+use Rattle.std.proofs.Common.{ap, ◌∙◌}
 use Rattle.fs_model.specs.Backing.{page_puts}
 use Rattle.ubifs_base.specs.RawOf.{raw_of}
 use Rattle.plain_backing.specs.PlainBacking.{page_spent}
@@ -34,8 +32,7 @@ invariant_of-self-clause-idle c =
 pub invariant_of-self-2-clause-told : goal.invariant_of-self-2-clause-told
 invariant_of-self-2-clause-told c =
     let self = c.args.self.now in
-    let P : List Change → Type 0 = λ group. c.apply.new.self ≡ apply self.tree group in
-    page_told self.tree c.apply.new.self self.story.value c.add_page.new.story.value c.count_all.new.story.value c.args.page.now c.add_page.ensures c.count_all.ensures (subst P c.in_ok-group.ensures.group c.in_ok-apply.ensures.ok) self.told (self.whole c.in_default.ensures.ok.2) c.requires.revives_none
+    page_told self.tree c.set_page.new.self self.story.value c.add_page.new.story.value c.count_all.new.story.value c.args.page.now c.add_page.ensures c.count_all.ensures c.in_ok-set_page.ensures.ok self.told (self.whole c.in_default.ensures.ok.2) c.requires.revives_none
 
 pub invariant_of-self-2-clause-whole : goal.invariant_of-self-2-clause-whole
 invariant_of-self-2-clause-whole c = λ written. whole_all c.add_page.new.story.value c.count_all.new.story.value c.count_all.ensures
@@ -50,10 +47,8 @@ pub returns-clause-sure : goal.returns-clause-sure
 returns-clause-sure c =
     let self = c.args.self.now in
     let geo = raw_of self.geo in
-    let P : List Change → Type 0 = λ group. c.apply.new.self ≡ apply self.tree group in
-    let put = subst P c.in_ok-group.ensures.group c.in_ok-apply.ensures.ok in
     let spent = c.spend_page.ensures ∙ ap page_spent c.in_default.ensures.ok.0 in
-    sure_after _ geo self.tree c.apply.new.self self.story.value c.count_all.new.story.value self.numbers c.spend_page.new.numbers _ c.in_default.ensures.ok.1
+    sure_after _ geo self.tree c.set_page.new.self self.story.value c.count_all.new.story.value self.numbers c.spend_page.new.numbers _ c.in_default.ensures.ok.1
     (ap (λ (n : Numbers). n.strike) spent) (ap (λ (n : Numbers). n.faults) spent)
-    (page_covers geo self.geo.in_range self.tree c.apply.new.self c.args.page.now self.story.value c.count_all.new.story.value self.numbers c.spend_page.new.numbers
-    put c.requires.fits c.requires.covered spent (λ before later grant. c.what_was_admitted_can_be_put.ensures.page geo before later grant))
+    (page_covers geo self.geo.in_range self.tree c.set_page.new.self c.args.page.now self.story.value c.count_all.new.story.value self.numbers c.spend_page.new.numbers
+    c.in_ok-set_page.ensures.ok c.requires.fits c.requires.covered spent (λ before later grant. c.what_was_admitted_can_be_put.ensures.page geo before later grant))
