@@ -34,25 +34,8 @@ use Rattle.vfs_ops.specs.Replies.{is_refusal}
 use Rattle.vfs_ops.specs.Steps.{IsExact, Passage, allowed}
 use Rattle.script_run.specs.Run.{HasStored}
 use Rattle.script_run.specs.Sessions.{mounted_over}
-use Rattle.script_run.specs.Stored.{IsFileStored, is_early}
-
--- a block of a file no page of which is dirty is the tree's
-other_block : (dirty : DirtyPages) (blocks : Blocks) (ino block : ℕ) → has_dirty dirty ino ≡ false → block_at (fold with_page blocks dirty) ino block ≡ block_at blocks ino block
-other_block [] blocks ino block none = refl
-other_block (e ∷ dirty) blocks ino block none = elim (eqb_tells e.0.0 ino) [
-  | inl same ↦ let no = rw same.0 at none in absurd (false≢true (sym no))
-  | inr other ↦
-      other_block dirty (with_page blocks e) ino block (rw other.0 at none)
-      ∙ ap (λ found. unwrap_or found []) (set_other pair_cmp pairs blocks e.0 e.1.bytes (ino, block) (λ same. other.1 (sym (ap (λ (q : ℕ × ℕ). q.0) same))))
-]
-
--- and its inode is the tree's too
-file_stored : (tree : Tree) (kept : Kept) (ino : ℕ) → IsKept tree kept → has_dirty kept.pages.dirty ino ≡ false → IsFileStored tree (present tree kept).tree ino
-file_stored tree kept ino fits none = record { inode = by (lookup (is_at (nat_cmp ino)) kept.inodes) refl; blocks = λ block. sym (other_block kept.pages.dirty tree.blocks ino block none) }
-  where
-    by : (found : Option Inode) → lookup (is_at (nat_cmp ino)) kept.inodes ≡ found → inode_at tree ino ≡ inode_at (present tree kept).tree ino
-    by None e = sym (seen_below tree kept ino fits e)
-    by (Some inode) e = fits.settled ino inode e none ∙ sym (seen_kept tree kept ino inode fits e)
+use Rattle.traced_files.proofs.Synced.{file_stored}
+use Rattle.script_run.specs.Stored.{is_early}
 
 -- after a sync that is done
 pub stored_of : (old new : PlainBacking) (before after : Kept) (now caller : ℕ) (op : Op) (reply : Reply) → IsKept (backing_state_of new).tree after

@@ -13,7 +13,7 @@ use Rattle.script_run.specs.Sessions.{mounted_over}
 use Rattle.script_run.proofs.Answering.{answer_of, exact_of, grows_of, issued_of, no_room, reply_of, steady_next, told_of, weighed_of, written_of}
 use Rattle.script_run.proofs.AtOnce.{over}
 use Rattle.script_run.proofs.Growth.{grown_of}
-use Rattle.script_run.proofs.Leaving.{told_journal}
+use Rattle.script_run.proofs.Leaving.{stored_left, told_journal}
 use Rattle.script_run.proofs.Storing.{still_of, stored_of}
 use Rattle.vfs_ops.proofs.Truncating.{few_asked}
 use Rattle.script_run.proofs.session.replied.Goals as goal
@@ -68,6 +68,7 @@ returns-clause-replied c =
       synced = stored_of old new before after c.args.now c.args.caller c.args.op reply fits clean (written_of (backing_state_of old) (backing_state_of new) before after c.args.caller c.args.now c.args.op c.step-outcome.result reply left c.requires.steady.mode is step.written);
       left = c.a_line_leaves_what_was_seen.ensures first last (script_line_of was c.args.caller c.args.op reply) 0 left c.requires.steady.mode (omega arith) c.requires.call c.args.fs.now.ready c.step-outcome.new.self.ready (told_journal old) (told_journal new)
           (subst (λ (o : Outcome). IsStep first last (Call c.args.caller c.args.now 0 c.args.op) o) is step);
+      stored = stored_left new;
       still = still_of passage c.args.caller c.args.now c.args.op reply left c.a_plain_answer_is_no_refusal.ensures c.args.fs.now.ready.sound (exact_of passage c.args.caller c.args.now c.args.op c.step-outcome.result reply left is step.exact);
       grown = grown_of old new before after c.args.now (nodes_added was c.args.caller c.args.op reply) (nodes_for was c.args.caller c.args.op) _
           (weighed_of passage c.args.caller c.args.now c.args.op c.step-outcome.result reply left is step.weighed) step.goes (omega arith);
