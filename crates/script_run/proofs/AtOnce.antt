@@ -30,6 +30,7 @@ use Rattle.script_phase.specs.Phases.{HasSameLimits, IsOneTrace, IsUnfailing, ca
 use Rattle.script_run.specs.Phases.{AreServedTogether, opened_on, trace_text}
 use Rattle.script_run.specs.Run.{ScriptRunning, orphans_told}
 use Rattle.script_run.specs.Sessions.{IsSteady, IsWaiting}
+use Rattle.script_run.proofs.Leaving.{stored_left}
 
 -- files over a plain backing, and the opening of a phase over them
 abbrev pub over : PlainBacking → Kept → List NoSpace → FilesState

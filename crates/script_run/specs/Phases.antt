@@ -6,7 +6,9 @@ use Rattle.small_areas.specs.Orphans.{orphan_limit}
 use Rattle.fs_model.specs.declared.backing_answers.Mode.TheVariants.{ReadWrite}
 use Rattle.fs_model.specs.declared.trace.TraceLine.{TraceLine}
 use Rattle.fs_model.specs.Cover.{index_lebs}
+use Rattle.fs_model.specs.Journal.{MayLeave}
 use Rattle.fs_model.specs.Legal.{AreLines, Opening, Place, Present, count_in, most_weight, sides_in}
+use Rattle.fs_model.specs.Orphan.{without_nameless}
 use Rattle.buffered_files.specs.Alike.{IsAlike}
 use Rattle.traced_files.specs.History.{IsRoomAsked, grown_weight, is_flushed}
 use Rattle.traced_files.specs.Seen.{LeavesSeen}

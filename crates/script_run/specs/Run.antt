@@ -22,8 +22,8 @@ use Rattle.fs_model.specs.Outcome.{Outcome}
 use Rattle.fs_model.specs.Worked.{fresh}
 use Rattle.buffered_files.specs.Alike.{IsAlike}
 use Rattle.vfs_ops.specs.Kinds.{added_by, is_question}
-use Rattle.vfs_ops.specs.Operations.{has_group, nodes_asked}
-use Rattle.vfs_ops.specs.Steps.{IsDone, allowed, asked, is_write}
+use Rattle.vfs_ops.specs.Operations.{nodes_asked}
+use Rattle.vfs_ops.specs.Steps.{IsDone, allowed, asked}
 use Rattle.traced_files.specs.Seen.{IsFileStored, LeavesSeen}
 use Rattle.script_text.specs.declared.part.Part.{Part}
 use Rattle.script_text.specs.declared.part.Part.TheVariants.{Mount, Unmount, Now, Workers, Line}
@@ -80,11 +80,11 @@ pub record HasNoRoom (geo : RawGeometry) (here : ScriptRunning) (need : Need) (s
   pub room_is : sides.room ≡ room_for geo (clean_space geo here) need
   pub full : sides.room < sides.need
 
--- Refused for want of room for what is asked, where nothing else refuses. It is a write, or has a group of changes to put.
+-- Refused for want of room for what is asked, where nothing else refuses. It is a write that touches a page, or has a group of changes with a node to put.
 pub record IsRefusedForRoom (geo : RawGeometry) (before : ScriptRunning) (caller : ℕ) (op : Op) (reply : Reply) (after : ScriptRunning) : Type 0 where
   pub sides : NoSpace
   pub told : reply ≡ Refused (Enospc sides)
-  pub asks : (is_write op ≡ true) ⊎ (has_group op ≡ true)
+  pub asks : (0 < pages_in op) ⊎ (0 < nodes_asked before.files caller before.now op)
   pub free : (done : Reply × Files) × (plain geo before caller op ≡ Ok done)
   pub room : HasNoRoom geo after (asked before.files caller before.now 0 op) sides
 
