@@ -232,7 +232,7 @@ step_as s op called done step =
 flush_leaves : (opening : Files) (all : List TraceLine) (s : Stepped) → AreLaws → IsCutCall s → s.line.op ≡ Flush → s.line.reply ≡ Done → IsShown opening all s.new → (left : Tree) (place : TreePlace) → MayLeave s.new.backing.journal left → WasSeen opening all place (value_at left place)
 flush_leaves opening all s laws h flush done shown left place may =
     let alone : left ≡ without_nameless (present_in s.new).tree =
-        laws.cuts.flushed s.old s.new s.line.caller s.line.now s.grant s.left left (h.writes (let_through s Flush flush done h.step.answered.0)) h.after.kept_fits h.journal_after (step_as s Flush flush done h.step) may in
+    laws.cuts.flushed s.old s.new s.line.caller s.line.now s.grant s.left left (h.writes (let_through s Flush flush done h.step.answered.0)) h.after.kept_fits h.journal_after (step_as s Flush flush done h.step) may in
     shown_last opening all s.new shown h.after.sound place (value_at left place) (inr (ap (λ (tree : Tree). value_at tree place) alone))
 
 -- what a call that is done comes to
@@ -258,7 +258,7 @@ file_leaves opening lines all s told laws h before shown done left place sync ma
     let handles : (files_behind opening lines).handles ≡ s.old.kept.handles = sym (ap (λ (files : Files). files.handles) before.replayed) ∙ before.same.handles in
     let held : lookup (is_at (pair_cmp (s.line.caller, sync.slot))) s.old.kept.handles ≡ Some sync.ino = subst (λ (handles : Handles). lookup (is_at (pair_cmp (s.line.caller, sync.slot))) handles ≡ Some sync.ino) handles sync.held in
     let inodes : (files_behind opening lines).tree.inodes ≡ (present_in s.new).tree.inodes =
-        sym (ap (λ (files : Files). files.tree.inodes) before.replayed) ∙ before.same.inodes ∙ inodes_left s sync.slot sync.called done h.step.answered.0 in
+    sym (ap (λ (files : Files). files.tree.inodes) before.replayed) ∙ before.same.inodes ∙ inodes_left s sync.slot sync.called done h.step.answered.0 in
     let lasts : lasts_with (present_in s.new).tree (Some sync.ino) place ≡ true = sym (lasts_alike (files_behind opening lines).tree (present_in s.new).tree sync.ino place inodes) ∙ sync.lasts in
     let alone : left ≡ without_nameless s.new.backing.tree = laws.cuts.synced s.new.backing h.journal_after synced.0 left may in
     shown_last opening all s.new shown h.after.sound place (value_at left place)

@@ -64,8 +64,8 @@ returns-clause-replied c =
           })
           (no_room geo (backing_state_of old) new after c.args.now steady fits clean)
           (λ sides turned done there refused noted. asks_of (backing_state_of old) (backing_state_of new) before after c.args.caller c.args.now c.args.op reply first.refused last.refused sides (asked was.files c.args.caller c.args.now 0 c.args.op) turned done
-              (allowed_done (orphan_room (backing_state_of old)) (backing_state_of old).orphan_limit was.files c.args.caller c.args.now c.args.op done there) (noted ∙ ap (λ (r : Reply). first.refused ++ no_space_in r) refused) step.at_once
-              (subst (λ (o : Outcome). IsBufferedCall (backing_state_of old) (backing_state_of new) before after first.refused last.refused (Call c.args.caller c.args.now 0 c.args.op) o) is step.buffered))
+          (allowed_done (orphan_room (backing_state_of old)) (backing_state_of old).orphan_limit was.files c.args.caller c.args.now c.args.op done there) (noted ∙ ap (λ (r : Reply). first.refused ++ no_space_in r) refused) step.at_once
+          (subst (λ (o : Outcome). IsBufferedCall (backing_state_of old) (backing_state_of new) before after first.refused last.refused (Call c.args.caller c.args.now 0 c.args.op) o) is step.buffered))
           (sym c.is_memory.ensures ∙ c.if-is_memory.false) refl told.0;
       orphans = grows_of (orphans_told was) (orphans_told here) (next_orphans (backing_state_of old)) (next_orphans (backing_state_of new)) (if leaves_orphan was.files here.files then 1 else 0)
           (ap (λ n. n + (backing_state_of old).closed) (nameless (backing_state_of old).tree before c.args.fs.now.ready.kept_fits)) (ap (λ n. n + (backing_state_of new).closed) (nameless (backing_state_of new).tree after fits))
