@@ -138,9 +138,18 @@ def has_no_room(model, volume, need, others, reply):
     return reply == f"E6 {wanted} {room}" and room < wanted <= most_needed and volume.least_room(most) <= room
 
 
+def synced(old, now, ino):
+    """An earlier state once a file is synced. Its other files are kept. The file is as now, and so are all names, and inodes that aren't files'."""
+    state = copy.deepcopy(now)
+    for inode in state.inodes.values():
+        if inode.kind == "f" and inode.ino != ino and inode.ino in old.inodes:
+            vars(inode).update(copy.deepcopy(vars(old.inodes[inode.ino])))
+    return state
+
+
 class Judge:
     """What a script has led to so far, and how many of its lines were refused for want of room. If asked to, it keeps the states of the files since
-    the last flush that was done or the last unmount, the present one too."""
+    the last flush that was done or the last unmount, the present one too. An `fsync` that is done takes what it makes last out of them."""
 
     def __init__(self, volume, keeps=False):
         self.volume, self.model, self.without_room = volume, Model(), 0
@@ -149,6 +158,10 @@ class Judge:
     def keep(self, flushed):
         if self.states is not None:
             self.states = ([] if flushed else self.states) + [copy.deepcopy(self.model)]
+
+    def keep_synced(self, ino):
+        if self.states is not None:
+            self.states = [synced(old, self.model, ino) for old in self.states]
 
     def served(self, caller, call, others, got):
         """The reply that is wanted in place of this one, or the same."""
@@ -186,6 +199,8 @@ class Judge:
                 return at, f"{shown((caller, call))}: '{text}' in place of '{wanted}'"
             if call[0] not in QUESTIONS and words[2].startswith("ok"):
                 self.keep(call[0] == "flush")
+            if call[0] == "fsync" and words[2].startswith("ok"):
+                self.keep_synced(self.model.slots[caller, call[1]].ino)
         return None
 
     def control_fault(self, control, printed):

@@ -1,6 +1,7 @@
 """Judges what is stored on the volume of a script that ends while mounted. Pages that nobody synced may be lost, so its files may be older than what
-callers saw last. But each inode, name and block has a value that callers saw since the last flush that was done, or since the last unmount.
-It is looked for among the states of the model (tests/model.py) since then.
+callers saw last. But each inode, name and block has a value that callers saw since the last sync of it that was done, or since the last unmount.
+A flush syncs all, an `fsync` its file, all names, and the inodes that aren't files'. A value is looked for among the states of the model
+(tests/model.py) since then, in which tests/history.py puts what was synced.
 
 The files are what a run on the image shows: `all_stored` has the calls that ask for them, and `stored_fault` judges the replies.
 """

@@ -1,6 +1,7 @@
 -- What a run's reply says, from what a step over its backing answers.
-use Rattle.std.proofs.Common.{◌≡◌, ℕ, ◌⊎◌, inl, inr, ◌+◌, ◌-◌, ◌≤◌, false, true, Err, refl, sym, ap, subst, ◌∙◌, arith, length, List, []}
+use Rattle.std.proofs.Common.{◌≡◌, ℕ, zero, suc, ◌⊎◌, inl, inr, ◌+◌, ◌-◌, ◌<◌, ◌≤◌, false, true, Ok, Err, refl, sym, ap, subst, ◌∙◌, arith, length, List, [], ◌∷◌, ◌++◌}
 use Rattle.std.proofs.lemmas.Bool.{false≢true}
+use Rattle.std.proofs.lemmas.List.{length-append}
 use Rattle.ubifs_base.specs.declared.raw_geometry.RawGeometry.{RawGeometry}
 use Rattle.ubifs_base.specs.Areas.{main_lebs}
 use Rattle.small_areas.specs.Orphans.{orphan_limit}
@@ -16,11 +17,13 @@ use Rattle.fs_model.specs.declared.reply.Reply.TheVariants.{Refused}
 use Rattle.fs_model.specs.declared.space.Need.{Need}
 use Rattle.fs_model.specs.Backing.{BackingState, Goes, ModeGoes, Rose, next_orphans}
 use Rattle.fs_model.specs.Cover.{needed, room_for, tree_bytes}
-use Rattle.fs_model.specs.Files.{Files}
+use Rattle.fs_model.specs.Files.{Files, pages_of}
+use Rattle.fs_model.specs.Legal.{pages_in}
+use Rattle.fs_model.specs.Operation.{outcome_of}
 use Rattle.buffered_files.specs.Alike.{IsAlike}
 use Rattle.buffered_files.specs.declared.kept.Kept.{Kept}
 use Rattle.buffered_files.specs.Calls.{IsWithoutRoom, SureGoes}
-use Rattle.buffered_files.specs.Present.{IsKept, present}
+use Rattle.buffered_files.specs.Present.{IsKept, newly_dirty, present}
 use Rattle.plain_backing.specs.declared.backing.PlainBacking.{PlainBacking}
 use Rattle.plain_backing.specs.PlainBacking.{Covers, backing_state_of, outlook_of}
 use Rattle.plain_backing.specs.Spending.{is_spent}
@@ -29,8 +32,10 @@ use Rattle.vfs_ops.specs.declared.event.Outcome.{Outcome}
 use Rattle.vfs_ops.specs.declared.event.Outcome.TheVariants.{Replied}
 use Rattle.vfs_ops.specs.Events.{HasSynced, IsAnswer as IsAnswerOf, IsExactCall, IsReply, IsWeighedCall, IsWrittenBack, left_of}
 use Rattle.vfs_plans.specs.Answers.{IsFault}
-use Rattle.vfs_ops.specs.Operations.{has_group}
-use Rattle.vfs_ops.specs.Steps.{IsAnswered, IsDone, IsExact, IsLast, IsRefusedFor, IsTurnedDown, IsUnsynced, Passage, allowed, allowed_on, asked, is_write, read_only_cause}
+use Rattle.vfs_ops.specs.Operations.{nodes_asked}
+use Rattle.vfs_ops.specs.Writing.{BuffersReply}
+use Rattle.vfs_ops.specs.Steps.{IsAnswered, IsAtOnceReply, IsDone, IsExact, IsLast, IsRefusedFor, IsTurnedDown, IsUnsynced, Passage, allowed, allowed_on, asked, no_space_in, read_only_cause}
+use Rattle.traced_files.proofs.Going.{fewer, open_for}
 use Rattle.script_phase.specs.Phases.{is_memory}
 use Rattle.script_run.specs.Run.{HasNoRoom, IsScriptAnswer, IsRefusedForRoom, ScriptRunning, orphans_told, plain}
 use Rattle.script_run.specs.Sessions.{IsSteady, mounted_over}
@@ -78,50 +83,71 @@ pub record IsCalm (geo : RawGeometry) (old new : BackingState) (before : ScriptR
   pub limit : old.orphan_limit ≡ orphan_limit geo.leb_size
   pub orphans : next_orphans old ≡ orphans_told before
 
--- what is refused for want of room is a write, or has a group
-asks_of : (old new : BackingState) (kept : Kept) (need : Need) (op : Op) (sides : NoSpace) → IsTurnedDown old new kept need op (Enospc sides) → (is_write op ≡ true) ⊎ (has_group op ≡ true)
-asks_of old new kept need (OpenFile path slot) sides h = absurd h
-asks_of old new kept need (Close slot) sides h = absurd h
-asks_of old new kept need (Read slot offs len) sides h = absurd h
-asks_of old new kept need (ListDir path) sides h = absurd h
-asks_of old new kept need (Stat path) sides h = absurd h
-asks_of old new kept need (Readlink path) sides h = absurd h
-asks_of old new kept need (Fsync slot) sides h = absurd h
-asks_of old new kept need Flush sides h = absurd h
-asks_of old new kept need (Write slot offs len byte) sides h = inl refl
-asks_of old new kept need op sides h = inr refl
+-- one refusal more was noted
+one_more : (xs : List NoSpace) (x : NoSpace) → xs ++ x ∷ [] ≡ xs → ⊥
+one_more xs x e = let same = ap length e in let long = length-append xs (x ∷ []) in absurd (omega (arith, same, long))
+
+-- a group without a node isn't refused for want of room
+has_nodes : (first last : List NoSpace) (sides : NoSpace) (nodes : ℕ) → last ≡ first ++ sides ∷ [] → (nodes ≡ 0 → last ≡ first) → 0 < nodes
+has_nodes first last sides zero noted none = absurd (one_more first sides (sym noted ∙ none refl))
+has_nodes first last sides (suc n) noted none = omega arith
+
+-- and neither is a write that touches no page
+has_pages : (first last : List NoSpace) (sides : NoSpace) (pages newly : ℕ) → newly ≤ pages → last ≡ first ++ sides ∷ [] → (newly ≤ 0 → last ≡ first) → 0 < pages
+has_pages first last sides zero newly few noted none = absurd (one_more first sides (sym noted ∙ none few))
+has_pages first last sides (suc n) newly few noted none = omega arith
+
+-- what is refused for want of room touches a page, or has a group with a node
+pub asks_of : (old new : BackingState) (before after : Kept) (caller now : ℕ) (op : Op) (reply : Reply) (first last : List NoSpace) (sides : NoSpace) (need : Need) → IsTurnedDown old new after need op (Enospc sides) → (done : Reply × Files) → outcome_of (present old.tree before) caller now op ≡ Ok done
+    → last ≡ first ++ sides ∷ [] → IsAtOnceReply old new before caller now op first last → BuffersReply old new before after first last caller 0 op reply → (0 < pages_in op) ⊎ (0 < nodes_asked (present old.tree before) caller now op)
+asks_of old new before after caller now (OpenFile path slot) reply first last sides need h done there noted at_once buffers = absurd h
+asks_of old new before after caller now (Close slot) reply first last sides need h done there noted at_once buffers = absurd h
+asks_of old new before after caller now (Read slot offs len) reply first last sides need h done there noted at_once buffers = absurd h
+asks_of old new before after caller now (ListDir path) reply first last sides need h done there noted at_once buffers = absurd h
+asks_of old new before after caller now (Stat path) reply first last sides need h done there noted at_once buffers = absurd h
+asks_of old new before after caller now (Readlink path) reply first last sides need h done there noted at_once buffers = absurd h
+asks_of old new before after caller now (Fsync slot) reply first last sides need h done there noted at_once buffers = absurd h
+asks_of old new before after caller now Flush reply first last sides need h done there noted at_once buffers = absurd h
+asks_of old new before after caller now (Write slot offs len byte) reply first last sides need h done there noted at_once buffers =
+    let held = open_for (present old.tree before) caller now slot offs len byte done there in
+    let few : newly_dirty before.pages.dirty held.0 offs len ≤ length (pages_of offs len) = fewer _ (pages_of offs len) in
+    inl (has_pages first last sides (length (pages_of offs len)) (newly_dirty before.pages.dirty held.0 offs len) few noted (λ paid. (buffers held.0 held.1 (inl paid)).room))
+asks_of old new before after caller now op reply first last sides need h done there noted at_once buffers =
+    inr (has_nodes first last sides (nodes_asked (present old.tree before) caller now op) noted (λ none. (at_once refl done there (inl none)).0))
 
 -- the reply's cause, of those that are left
 cause_of : (geo : RawGeometry) (old new : BackingState) (kept : Kept) (before after : ScriptRunning) (caller : ℕ) (op : Op) (reply : Reply) → IsCalm geo old new before
     → ((need : Need) (sides : NoSpace) → IsWithoutRoom old new kept need (Enospc sides) → HasNoRoom geo after need sides)
+    → ((sides : NoSpace) → IsTurnedDown old new kept (asked before.files caller before.now 0 op) op (Enospc sides) → (done : Reply × Files) → allowed_on old before.files caller before.now op ≡ Ok done → reply ≡ Refused (Enospc sides) → (0 < pages_in op) ⊎ (0 < nodes_asked before.files caller before.now op))
     → is_memory reply ≡ false → (r : Refusal) → reply ≡ Refused r
     → (allowed_on old before.files caller before.now op ≡ Err r) ⊎ (IsTurnedDown old new kept (asked before.files caller before.now 0 op) op r × IsLast (allowed_on old before.files caller before.now op) r)
     → ((refusal : Refusal) × (plain geo before caller op ≡ Err refusal) × (reply ≡ Refused refusal)) ⊎ IsRefusedForRoom geo before caller op reply after
-cause_of geo old new kept before after caller op reply calm room known r told (inl e) = inl (r, sym (plainly geo old before caller op calm.limit calm.orphans) ∙ e, told)
-cause_of geo old new kept before after caller op reply calm room known (Enospc sides) told (inr (turned, last)) = inr (record {
+cause_of geo old new kept before after caller op reply calm room asks known r told (inl e) = inl (r, sym (plainly geo old before caller op calm.limit calm.orphans) ∙ e, told)
+cause_of geo old new kept before after caller op reply calm room asks known (Enospc sides) told (inr (turned, last)) = inr (record {
   sides = sides;
   told = told;
-  asks = asks_of old new kept (asked before.files caller before.now 0 op) op sides turned;
+  asks = asks sides turned last.0 last.1 told;
   free = (last.0, sym (plainly geo old before caller op calm.limit calm.orphans) ∙ last.1);
   room = room (asked before.files caller before.now 0 op) sides (turned_room old new kept (asked before.files caller before.now 0 op) op (Enospc sides) turned);
 })
-cause_of geo old new kept before after caller op reply calm room known (Eio count) told (inr (turned, last)) =
+cause_of geo old new kept before after caller op reply calm room asks known (Eio count) told (inr (turned, last)) =
     let why = turned_room old new kept (asked before.files caller before.now 0 op) op (Eio count) turned in absurd (no_rise old.faults new.faults calm.faults_were calm.faults why.0)
-cause_of geo old new kept before after caller op reply calm room known (Erofs cause) told (inr (turned, last)) =
+cause_of geo old new kept before after caller op reply calm room asks known (Erofs cause) told (inr (turned, last)) =
     let n : ReadWrite ≡ ReadOnly cause = sym calm.is ∙ turned_room old new kept (asked before.files caller before.now 0 op) op (Erofs cause) turned in absurd cc
-cause_of geo old new kept before after caller op reply calm room known Enomem told (inr (turned, last)) = absurd (false≢true (sym known ∙ ap is_memory told))
-cause_of geo old new kept before after caller op reply calm room known r told (inr (turned, last)) = absurd (turned_room old new kept (asked before.files caller before.now 0 op) op r turned)
+cause_of geo old new kept before after caller op reply calm room asks known Enomem told (inr (turned, last)) = absurd (false≢true (sym known ∙ ap is_memory told))
+cause_of geo old new kept before after caller op reply calm room asks known r told (inr (turned, last)) = absurd (turned_room old new kept (asked before.files caller before.now 0 op) op r turned)
 
 pub answer_of : (geo : RawGeometry) (old new : BackingState) (kept : Kept) (before after : ScriptRunning) (caller : ℕ) (op : Op) (reply : Reply) (first last : List NoSpace) → IsCalm geo old new before
     → ((need : Need) (sides : NoSpace) → IsWithoutRoom old new kept need (Enospc sides) → HasNoRoom geo after need sides)
+    → ((sides : NoSpace) → IsTurnedDown old new kept (asked before.files caller before.now 0 op) op (Enospc sides) → (done : Reply × Files) → allowed_on old before.files caller before.now op ≡ Ok done → reply ≡ Refused (Enospc sides) → last ≡ first ++ no_space_in reply → (0 < pages_in op) ⊎ (0 < nodes_asked before.files caller before.now op))
     → is_memory reply ≡ false → present new.tree kept ≡ after.files → IsAnswered old new kept before.files caller before.now 0 op reply first last → IsScriptAnswer geo before caller op reply after
-answer_of geo old new kept before after caller op reply first last calm room known seen (inl (open_is, done, same)) =
+answer_of geo old new kept before after caller op reply first last calm room asks known seen (inl (open_is, done, same)) =
     let Q : Files → Type 0 = λ files. IsDone (plain geo before caller op) files reply in
     inl (subst Q seen (subst (λ outcome. IsDone outcome (present new.tree kept) reply) (plainly geo old before caller op calm.limit calm.orphans) done))
-answer_of geo old new kept before after caller op reply first last calm room known seen (inr (refusal, list)) =
+answer_of geo old new kept before after caller op reply first last calm room asks known seen (inr (refusal, list)) =
     let Q : Files → Type 0 = λ files. IsAlike before.files files in
     inr (record {
-      why = cause_of geo old new kept before after caller op reply calm room known refusal.refusal refusal.told
+      why = cause_of geo old new kept before after caller op reply calm room (λ sides turned done there told. asks sides turned done there told list) known refusal.refusal refusal.told
           (subst (λ (m : Mode). IsRefusedFor (read_only_cause m op) old new kept before.files caller before.now 0 op refusal.refusal) calm.was refusal.why);
       same = subst Q seen refusal.same;
     })

@@ -30,6 +30,7 @@ use Rattle.script_phase.specs.Phases.{HasSameLimits, IsOneTrace, IsUnfailing, ca
 use Rattle.script_run.specs.Phases.{AreServedTogether, opened_on, trace_text}
 use Rattle.script_run.specs.Run.{ScriptRunning, orphans_told}
 use Rattle.script_run.specs.Sessions.{IsSteady, IsWaiting}
+use Rattle.script_run.proofs.Leaving.{stored_left}
 
 -- files over a plain backing, and the opening of a phase over them
 abbrev pub over : PlainBacking → Kept → List NoSpace → FilesState
@@ -143,6 +144,7 @@ at_once_of old new before after noted refused mounted now number workers lines t
       same = h.same;
       under = record { kept = after; fits = fits; seen = refl };
       left = left;
+      stored = stored_left new;
       flushed = λ behind. sym (clean (backing_state_of new).tree after fits (h.flushed behind));
       weight = let grown = h.grown in omega (arith, grown);
       index = subst (λ (w : ℕ). (backing_state_of new).space.index ≤ max (backing_state_of old).space.index (2 * index_lebs geo w)) (much.weight trace) h.weight.index;

@@ -80,6 +80,7 @@ replied_in geo a b m n i j w v caller op reply h = record {
   under = h.under;
   synced = synced_in a b m n i j w v caller op reply h.synced;
   left = leaves_numbered a.files a.journal b.journal (script_line_of a caller op reply) (i + 1) h.left;
+  stored = h.stored;
   still = h.still;
   grown = record { weight = h.grown.weight; index = h.grown.index };
   few = h.few;

@@ -1,58 +1,30 @@
 -- What is stored under the files, from what a step says of what is kept.
-use Rattle.std.proofs.Common.{◌≡◌, ◌⊎◌, ℕ, Bool, true, false, Option, Some, None, Ok, Err, [], ◌∷◌, refl, sym, ap, ◌∙◌, inl, inr, cond}
-use Rattle.std.specs.Prelude.{◌==◌, ◌&&◌, fold, not, unwrap_or}
-use Rattle.std.specs.BTreeMap.{is_at}
-use Rattle.std.specs.Map.{lookup}
-use Rattle.std.specs.Ordering.{nat_cmp}
+use Rattle.std.proofs.Common.{◌≡◌, ◌⊎◌, ℕ, Bool, true, false, Ok, [], refl, sym, ap, ◌∙◌, inl, inr}
+use Rattle.std.specs.Prelude.{not}
 use Rattle.std.proofs.lemmas.Bool.{false≢true}
-use Rattle.std.proofs.lemmas.Bool.Decides.{eqb_tells}
 use Rattle.fs_model.specs.declared.backing_answers.Mode.TheVariants.{ReadWrite}
-use Rattle.fs_model.specs.declared.inode.Inode.{Inode}
 use Rattle.fs_model.specs.declared.op.Op.{Op}
 use Rattle.fs_model.specs.declared.op.Op.TheVariants.{Flush, Fsync}
 use Rattle.fs_model.specs.declared.refusal.Refusal.{Refusal}
-use Rattle.fs_model.specs.declared.refusal.Refusal.TheVariants.{Enfile}
-use Rattle.fs_model.specs.declared.refusal.Table.TheVariants.{Orphans}
 use Rattle.fs_model.specs.declared.reply.Reply.{Reply}
 use Rattle.fs_model.specs.declared.reply.Reply.TheVariants.{Done, Refused}
-use Rattle.fs_model.specs.Files.{Blocks, Files, Tree, block_at, inode_at, pair_cmp}
+use Rattle.fs_model.specs.Files.{Files}
 use Rattle.fs_model.specs.Operation.{outcome_of}
-use Rattle.fs_model.specs.Orphan.{leaves_orphan, within_orphans}
-use Rattle.fs_model.specs.Outcome.{Outcome, refuse}
-use Rattle.fs_laws.specs.Maps.{set_other}
-use Rattle.fs_laws.specs.Orders.{pairs}
 use Rattle.fs_laws.specs.Sound.{IsSound}
 use Rattle.buffered_files.specs.declared.kept.Kept.{Kept}
-use Rattle.buffered_files.specs.Present.{DirtyPages, IsKept, has_dirty, present, with_page}
-use Rattle.buffered_files.proofs.Reading.{Reads-tree, seen_below, seen_kept}
+use Rattle.buffered_files.specs.Present.{IsKept, present}
+use Rattle.buffered_files.proofs.Reading.{Reads-tree}
 use Rattle.plain_backing.specs.declared.backing.PlainBacking.{PlainBacking}
 use Rattle.plain_backing.specs.PlainBacking.{backing_state_of}
 use Rattle.vfs_ops.specs.Events.{HasSynced}
 use Rattle.vfs_ops.specs.Kinds.{is_late, is_question}
-use Rattle.vfs_ops.specs.Operations.{is_of_names}
 use Rattle.vfs_ops.specs.Replies.{is_refusal}
-use Rattle.vfs_ops.specs.Steps.{IsExact, Passage, allowed}
+use Rattle.vfs_ops.specs.Steps.{IsExact, Passage}
 use Rattle.script_run.specs.Run.{HasStored}
 use Rattle.script_run.specs.Sessions.{mounted_over}
-use Rattle.script_run.specs.Stored.{IsFileStored, is_early}
-
--- a block of a file no page of which is dirty is the tree's
-other_block : (dirty : DirtyPages) (blocks : Blocks) (ino block : ℕ) → has_dirty dirty ino ≡ false → block_at (fold with_page blocks dirty) ino block ≡ block_at blocks ino block
-other_block [] blocks ino block none = refl
-other_block (e ∷ dirty) blocks ino block none = elim (eqb_tells e.0.0 ino) [
-  | inl same ↦ let no = rw same.0 at none in absurd (false≢true (sym no))
-  | inr other ↦
-      other_block dirty (with_page blocks e) ino block (rw other.0 at none)
-      ∙ ap (λ found. unwrap_or found []) (set_other pair_cmp pairs blocks e.0 e.1.bytes (ino, block) (λ same. other.1 (sym (ap (λ (q : ℕ × ℕ). q.0) same))))
-]
-
--- and its inode is the tree's too
-file_stored : (tree : Tree) (kept : Kept) (ino : ℕ) → IsKept tree kept → has_dirty kept.pages.dirty ino ≡ false → IsFileStored tree (present tree kept).tree ino
-file_stored tree kept ino fits none = record { inode = by (lookup (is_at (nat_cmp ino)) kept.inodes) refl; blocks = λ block. sym (other_block kept.pages.dirty tree.blocks ino block none) }
-  where
-    by : (found : Option Inode) → lookup (is_at (nat_cmp ino)) kept.inodes ≡ found → inode_at tree ino ≡ inode_at (present tree kept).tree ino
-    by None e = sym (seen_below tree kept ino fits e)
-    by (Some inode) e = fits.settled ino inode e none ∙ sym (seen_kept tree kept ino inode fits e)
+use Rattle.traced_files.proofs.Answering.{allowed_done}
+use Rattle.traced_files.proofs.Synced.{file_stored}
+use Rattle.script_run.specs.Stored.{is_early}
 
 -- after a sync that is done
 pub stored_of : (old new : PlainBacking) (before after : Kept) (now caller : ℕ) (op : Op) (reply : Reply) → IsKept (backing_state_of new).tree after
@@ -66,21 +38,6 @@ stored_of old new before after now caller op reply fits clean h = tt
 early_refused : (reply : Reply) → is_early reply ≡ true → is_refusal reply ≡ true
 early_refused (Refused refusal) h = refl
 early_refused reply h = absurd (false≢true h)
-
-within_done : (room limit : ℕ) (files : Files) (o : Outcome) (x : Reply × Files) → within_orphans room limit files o ≡ Ok x → o ≡ Ok x
-within_done room limit files (Err refusal) x h = absurd cc
-within_done room limit files (Ok found) x h = by ((room == 0) && leaves_orphan files found.1) h
-  where
-    by : (b : Bool) → refuse b (Enfile Orphans limit) (Ok found) ≡ Ok x → ◌≡◌ {A = Outcome} (Ok found) (Ok x)
-    by true e = absurd cc
-    by false e = e
-
-allowed_done : (room limit : ℕ) (files : Files) (caller now : ℕ) (op : Op) (x : Reply × Files) → allowed room limit files caller now op ≡ Ok x → outcome_of files caller now op ≡ Ok x
-allowed_done room limit files caller now op x h = by (is_of_names op) h
-  where
-    by : (b : Bool) → cond b (within_orphans room limit files (outcome_of files caller now op)) (outcome_of files caller now op) ≡ Ok x → outcome_of files caller now op ≡ Ok x
-    by true e = within_done room limit files (outcome_of files caller now op) x e
-    by false e = e
 
 -- what only looks, or is refused before anything is put, leaves what is stored
 pub still_of : (p : Passage) (caller now : ℕ) (op : Op) (reply : Reply) (left : ℕ)

@@ -6,7 +6,9 @@ use Rattle.small_areas.specs.Orphans.{orphan_limit}
 use Rattle.fs_model.specs.declared.backing_answers.Mode.TheVariants.{ReadWrite}
 use Rattle.fs_model.specs.declared.trace.TraceLine.{TraceLine}
 use Rattle.fs_model.specs.Cover.{index_lebs}
+use Rattle.fs_model.specs.Journal.{MayLeave}
 use Rattle.fs_model.specs.Legal.{AreLines, Opening, Place, Present, count_in, most_weight, sides_in}
+use Rattle.fs_model.specs.Orphan.{without_nameless}
 use Rattle.buffered_files.specs.Alike.{IsAlike}
 use Rattle.traced_files.specs.History.{IsRoomAsked, grown_weight, is_flushed}
 use Rattle.traced_files.specs.Seen.{LeavesSeen}
@@ -62,8 +64,9 @@ pub record AreServedTogether (geo : RawGeometry) (before : ScriptRunning) (lines
   -- Callers see the files behind the last line, but for zeros at the ends of blocks. What is stored is under them.
   pub same : IsAlike last.files after.files
   pub under : IsUnder after.stored after.files
-  -- What a cut leaves was seen behind some of the lines, and no flush was done since; if none was, a cut might have left it before.
+  -- What a cut leaves was seen behind some of the lines, and no sync of its place was done since; if none was, a cut might have left it before. It may leave what is stored.
   pub left : LeavesSeen before.files before.journal trace after.journal
+  pub stored : MayLeave after.journal (without_nameless after.stored)
   -- Behind a flush that was done that is stored which they see, as long as nothing but questions is asked.
   pub flushed : is_flushed trace ≡ true → after.stored ≡ after.files.tree
   -- The index weighs no more than the lines may add: what neither writes nor has a group adds nothing. It takes no more LEBs than five nodes for each line ask for. The next list of orphans has as much room as the lines left of it.

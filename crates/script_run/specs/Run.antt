@@ -22,14 +22,14 @@ use Rattle.fs_model.specs.Outcome.{Outcome}
 use Rattle.fs_model.specs.Worked.{fresh}
 use Rattle.buffered_files.specs.Alike.{IsAlike}
 use Rattle.vfs_ops.specs.Kinds.{added_by, is_question}
-use Rattle.vfs_ops.specs.Operations.{has_group, nodes_asked}
-use Rattle.vfs_ops.specs.Steps.{IsDone, allowed, asked, is_write}
-use Rattle.traced_files.specs.Seen.{LeavesSeen}
+use Rattle.vfs_ops.specs.Operations.{nodes_asked}
+use Rattle.vfs_ops.specs.Steps.{IsDone, allowed, asked}
+use Rattle.traced_files.specs.Seen.{IsFileStored, LeavesSeen}
 use Rattle.script_text.specs.declared.part.Part.{Part}
 use Rattle.script_text.specs.declared.part.Part.TheVariants.{Mount, Unmount, Now, Workers, Line}
 use Rattle.script_text.specs.Reply.{reply_line}
 use Rattle.text_lines.specs.Lines.{ended}
-use Rattle.script_run.specs.Stored.{IsFileStored, IsUnder, is_early}
+use Rattle.script_run.specs.Stored.{IsUnder, is_early}
 
 -- where a script is
 pub record ScriptRunning : Type 0 where
@@ -58,9 +58,9 @@ opening_on tree journal weight = record { files = record { tree = tree; handles 
 abbrev pub opening : Journal → ScriptRunning
 opening journal = opening_on fresh.tree journal 1
 
--- A cut leaves this tree, without what has no name, and nothing else.
+-- A cut leaves this tree, without what has no name, and nothing else. So the journal is told.
 abbrev pub LeavesOnly : Journal → Tree → Type 0
-LeavesOnly journal tree = (left : Tree) → MayLeave journal left → left ≡ without_nameless tree
+LeavesOnly journal tree = MayLeave journal (without_nameless tree) × ((left : Tree) → MayLeave journal left → left ≡ without_nameless tree)
 
 -- how many numbers the next list of orphans has: the inodes without a name, and those that were closed since the last list
 abbrev pub orphans_told : ScriptRunning → ℕ
@@ -80,11 +80,11 @@ pub record HasNoRoom (geo : RawGeometry) (here : ScriptRunning) (need : Need) (s
   pub room_is : sides.room ≡ room_for geo (clean_space geo here) need
   pub full : sides.room < sides.need
 
--- Refused for want of room for what is asked, where nothing else refuses. It is a write, or has a group of changes to put.
+-- Refused for want of room for what is asked, where nothing else refuses. It is a write that touches a page, or has a group of changes with a node to put.
 pub record IsRefusedForRoom (geo : RawGeometry) (before : ScriptRunning) (caller : ℕ) (op : Op) (reply : Reply) (after : ScriptRunning) : Type 0 where
   pub sides : NoSpace
   pub told : reply ≡ Refused (Enospc sides)
-  pub asks : (is_write op ≡ true) ⊎ (has_group op ≡ true)
+  pub asks : (0 < pages_in op) ⊎ (0 < nodes_asked before.files caller before.now op)
   pub free : (done : Reply × Files) × (plain geo before caller op ≡ Ok done)
   pub room : HasNoRoom geo after (asked before.files caller before.now 0 op) sides
 
@@ -145,8 +145,9 @@ pub record IsReplied (geo : RawGeometry) (before : ScriptRunning) (caller : ℕ)
   -- What is stored is joined to the files by what is kept in memory; after a sync it is what that names.
   pub under : IsUnder after.stored after.files
   pub synced : HasStored before caller op reply after
-  -- What a cut leaves was seen before the line or behind it; after a flush that was done it is what callers see.
+  -- What a cut leaves was seen before the line or behind it, or it might have left that before; of what a sync made last it is what callers see. It may leave what is stored.
   pub left : LeavesSeen before.files before.journal (script_line_of before caller op reply ∷ []) after.journal
+  pub stored : MayLeave after.journal (without_nameless after.stored)
   -- What only looks, or is refused before anything is put, stores nothing.
   pub still : (is_question op ≡ true) ⊎ (is_early reply ≡ true) → after.stored ≡ before.stored
   -- The index gets heavier by what is put at most; a group has five nodes at most.

@@ -1,8 +1,8 @@
 -- What is stored under the files that callers see.
-use Rattle.std.specs.Prelude.{◌≡◌, ℕ, Bool, false, not}
+use Rattle.std.specs.Prelude.{◌≡◌, Bool, false, not}
 use Rattle.fs_model.specs.declared.reply.Reply.{Reply}
 use Rattle.fs_model.specs.declared.reply.Reply.TheVariants.{Refused}
-use Rattle.fs_model.specs.Files.{Files, Tree, block_at, inode_at}
+use Rattle.fs_model.specs.Files.{Files, Tree}
 use Rattle.buffered_files.specs.declared.kept.Kept.{Kept}
 use Rattle.buffered_files.specs.Present.{IsKept, present}
 use Rattle.vfs_ops.specs.Kinds.{is_late}
@@ -12,11 +12,6 @@ pub record IsUnder (stored : Tree) (files : Files) : Type 0 where
   pub kept : Kept
   pub fits : IsKept stored kept
   pub seen : present stored kept ≡ files
-
--- a file is stored as it is seen: its inode, and each of its blocks
-pub record IsFileStored (stored seen : Tree) (ino : ℕ) : Type 0 where
-  pub inode : inode_at stored ino ≡ inode_at seen ino
-  pub blocks : (block : ℕ) → block_at stored.blocks ino block ≡ block_at seen.blocks ino block
 
 -- whether it is a refusal that comes before anything is put
 abbrev pub is_early : Reply → Bool

@@ -1,14 +1,13 @@
 -- What a step answered, answered from the place of a history in which callers can't tell the files from the present ones.
 use Rattle.std.proofs.Common.{◌≡◌, ◌≢◌, ◌⊎◌, inl, inr, ℕ, ◌≤◌, Bool, true, false, cond, ◌&&◌, List, [], ◌∷◌, Ok, Err, Some, None, refl, sym, ap, subst, ◌∙◌, arith}
-use Rattle.std.specs.Prelude.{◌==◌}
-use Rattle.std.proofs.lemmas.Bool.{false≢true}
+use Rattle.std.specs.Prelude.{◌==◌, ◌<◌, ◌||◌, nat_lt}
+use Rattle.std.proofs.lemmas.Bool.{false≢true, ltb-true}
 use Rattle.fs_model.specs.declared.backing_answers.Mode.{Mode}
 use Rattle.fs_model.specs.declared.backing_answers.Mode.TheVariants.{ReadWrite, ReadOnly}
 use Rattle.fs_model.specs.declared.op.Op.{Op}
-use Rattle.fs_model.specs.declared.op.Op.TheVariants.{OpenFile, Close, Read, Write, Fsync, Flush, List as ListDir, Stat, Readlink}
+use Rattle.fs_model.specs.declared.op.Op.TheVariants.{OpenFile, Close, Read, Fsync, Flush, List as ListDir, Stat, Readlink}
 use Rattle.fs_model.specs.declared.refusal.Cause.{Cause}
-use Rattle.fs_model.specs.declared.refusal.Cause.TheVariants.{Faulted, Spent, Tight}
-use Rattle.fs_model.specs.declared.refusal.Scarce.TheVariants.{Space}
+use Rattle.fs_model.specs.declared.refusal.Cause.TheVariants.{Faulted, Spent}
 use Rattle.fs_model.specs.declared.refusal.Refusal.{Refusal}
 use Rattle.fs_model.specs.declared.refusal.Refusal.TheVariants.{Enospc, Erofs, Eio, Enomem, Enfile}
 use Rattle.fs_model.specs.declared.refusal.Table.TheVariants.{Orphans}
@@ -17,7 +16,7 @@ use Rattle.fs_model.specs.declared.reply.Reply.TheVariants.{Refused}
 use Rattle.fs_model.specs.declared.trace.TraceLine.{TraceLine}
 use Rattle.fs_model.specs.Backing.{BackingState, ModeGoes, Rose}
 use Rattle.fs_model.specs.Files.{Files}
-use Rattle.fs_model.specs.Legal.{count_in, is_tight, read_only_cause, sides_in}
+use Rattle.fs_model.specs.Legal.{count_in, is_tight, pages_in, read_only_cause, sides_in}
 use Rattle.fs_model.specs.Operation.{Outcome, outcome_of}
 use Rattle.fs_model.specs.Orphan.{leaves_orphan, within_orphans}
 use Rattle.fs_model.specs.Outcome.{refuse}
@@ -28,7 +27,8 @@ use Rattle.buffered_files.specs.Calls.{IsWithoutRoom}
 use Rattle.vfs_plans.specs.Answers.{IsFault}
 use Rattle.vfs_ops.specs.Operations.{has_group, is_of_names}
 use Rattle.vfs_ops.specs.Replies.{IsAlikeOutcome}
-use Rattle.vfs_ops.specs.Steps.{IsTurnedDown, IsUnsynced, allowed, is_write, no_space_in}
+use Rattle.vfs_ops.specs.Steps.{IsTurnedDown, IsUnsynced, allowed, no_space_in}
+use Rattle.credited_files.specs.Calls.{needs_room}
 use Rattle.traced_files.specs.History.{IsRoomAsked}
 
 -- an outcome that was let through is the plain one
@@ -168,18 +168,13 @@ tells_room reply = false
 pub asked_none : (line : TraceLine) → tells_room line.reply ≡ false → IsRoomAsked line
 asked_none line e sides told = absurd (false≢true (sym e ∙ ap tells_room told))
 
--- what changes something and is no sync writes, or has a group
-pub asked_by : (op : Op) → IsChanging op → (is_write op ≡ true) ⊎ (has_group op ≡ true)
-asked_by (OpenFile path slot) changing = let f = changing (Faulted 0) in absurd cc
-asked_by (Close slot) changing = let f = changing (Faulted 0) in absurd cc
-asked_by (Read slot offs len) changing = let f = changing (Faulted 0) in absurd cc
-asked_by (ListDir path) changing = let f = changing (Faulted 0) in absurd cc
-asked_by (Stat path) changing = let f = changing (Faulted 0) in absurd cc
-asked_by (Readlink path) changing = let f = changing (Faulted 0) in absurd cc
-asked_by (Fsync slot) changing = let f = changing (Tight Space 0 0) in absurd cc
-asked_by Flush changing = let f = changing (Tight Space 0 0) in absurd cc
-asked_by (Write slot offs len byte) changing = inl refl
-asked_by op changing = inr refl
+-- what may ask for room touches a page, or has a group
+pub asked_by : (grant : ℕ) (op : Op) → needs_room grant op ≡ true → (0 < pages_in op) ⊎ (has_group op ≡ true)
+asked_by grant op needs = by (has_group op) refl needs
+  where
+    by : (grouped : Bool) → has_group op ≡ grouped → (grouped || nat_lt grant (pages_in op)) ≡ true → (0 < pages_in op) ⊎ (has_group op ≡ true)
+    by true is some = inr is
+    by false is some = let less = ltb-true grant (pages_in op) some in inl (omega (arith, less))
 
 -- whether a reply tells a count of faults
 abbrev pub tells_count : Reply → Bool

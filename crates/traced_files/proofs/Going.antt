@@ -215,7 +215,7 @@ asked_is files caller now grant (Write slot offs len byte) = (refl, refl, refl, 
 asked_is files caller now grant (Truncate slot size) = let none = cut_credits (group_of files caller now (Truncate slot size)) in (refl, refl, refl, λ le. omega (arith, le, none))
 asked_is files caller now grant op = (refl, refl, refl, λ le. omega (arith, le))
 
-fewer : {A : Type 0} (p : A → Bool) (xs : List A) → length (filter p xs) ≤ length xs
+pub fewer : {A : Type 0} (p : A → Bool) (xs : List A) → length (filter p xs) ≤ length xs
 fewer p [] = omega arith
 fewer p (x ∷ xs) = by (p x) (fewer p xs)
   where
@@ -224,7 +224,7 @@ fewer p (x ∷ xs) = by (p x) (fewer p xs)
     by false le = omega (arith, le)
 
 -- a write that is done is one to a file that is open
-open_for : (files : Files) (caller now slot offs len byte : ℕ) (done : Reply × Files) → outcome_of files caller now (Write slot offs len byte) ≡ Ok done → (ino : ℕ) × (handle_at files caller slot ≡ Some ino)
+pub open_for : (files : Files) (caller now slot offs len byte : ℕ) (done : Reply × Files) → outcome_of files caller now (Write slot offs len byte) ≡ Ok done → (ino : ℕ) × (handle_at files caller slot ≡ Some ino)
 open_for files caller now slot offs len byte done is = by (is_bad_slot slot || nat_lt 65536 len) (handle_at files caller slot) refl is
   where
     by : (bad : Bool) (found : Option ℕ) → handle_at files caller slot ≡ found → refuse bad Einval (with_open found (λ ino.
@@ -313,7 +313,7 @@ told_full opening place s sides laws h r closed told noted same done why =
     } in
     record {
       one = inl (told_as opening place s s.old.backing.mode (Enospc sides) r.number told (((done.0.0, here.after), here.done), are_sides opening place s.line sides s.new.backing need full));
-      asked = λ other is. asked_by op why.0;
+      asked = λ other is. asked_by s.grant op (asks_room s h why.0 sides told noted done);
       counts = inl (counts_none s.line (ap tells_count told));
     }
 

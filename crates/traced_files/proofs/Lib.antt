@@ -13,4 +13,5 @@ pub mod Plain
 pub mod Replaying
 pub mod SeenLast
 pub mod Sides
+pub mod Synced
 pub mod Weighing

@@ -1,5 +1,5 @@
 -- What the lines of many callers come to, with the work between them: from how files over a backing were to how they are.
-use Rattle.std.specs.Prelude.{◌≡◌, ◌⊎◌, ℕ, ◌+◌, ◌*◌, ◌^◌, ◌≤◌, ◌&&◌, ◌||◌, max, if◌then◌else◌, Bool, true, false, List, [], ◌∷◌, ◌++◌, All, drop, fold, length, sum_by}
+use Rattle.std.specs.Prelude.{◌≡◌, ◌⊎◌, ℕ, ◌+◌, ◌*◌, ◌^◌, ◌<◌, ◌≤◌, ◌&&◌, ◌||◌, max, if◌then◌else◌, Bool, true, false, List, [], ◌∷◌, ◌++◌, All, drop, fold, length, sum_by}
 use Rattle.std.specs.List.{flat_map}
 use Rattle.fs_model.specs.declared.backing_answers.Mode.{Mode}
 use Rattle.fs_model.specs.declared.backing_answers.Mode.TheVariants.{ReadWrite, ReadOnly}
@@ -88,9 +88,9 @@ files_after_line files line = by line.reply
 abbrev pub files_behind : Files → List TraceLine → Files
 files_behind files lines = fold files_after_line files lines
 
--- Want of room refuses nothing but a write, or an operation with a group of changes.
+-- Want of room refuses nothing but a write that touches a page, or an operation with a group of changes.
 abbrev pub IsRoomAsked : TraceLine → Type 0
-IsRoomAsked line = (sides : NoSpace) → line.reply ≡ Refused (Enospc sides) → (is_write line.op ≡ true) ⊎ (has_group line.op ≡ true)
+IsRoomAsked line = (sides : NoSpace) → line.reply ≡ Refused (Enospc sides) → (0 < pages_in line.op) ⊎ (has_group line.op ≡ true)
 
 -- how much heavier the index gets by an operation at most: by five nodes and two for each page that it touches, if it writes or has a group, and else by none
 abbrev pub index_growth_by : Op → ℕ

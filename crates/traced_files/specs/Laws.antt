@@ -7,6 +7,7 @@ use Rattle.fs_model.specs.declared.op.Op.TheVariants.{Flush}
 use Rattle.fs_model.specs.declared.refusal.Refusal.{Refusal}
 use Rattle.fs_model.specs.declared.reply.Reply.{Reply}
 use Rattle.fs_model.specs.declared.reply.Reply.TheVariants.{Done}
+use Rattle.fs_model.specs.Backing.{BackingState, IsSynced, LeavesTree}
 use Rattle.fs_model.specs.Effect.{GroupMakes}
 use Rattle.fs_model.specs.Files.{Files, Tree}
 use Rattle.fs_model.specs.Journal.{IfTold, IsJournalOf, Journal, MayLeave}
@@ -34,7 +35,7 @@ use Rattle.vfs_ops.specs.Operations.{nodes_asked}
 use Rattle.vfs_ops.specs.Passing.{IsStep}
 use Rattle.vfs_ops.specs.Replies.{IsAlikeOutcome, holds_bytes, is_refusal}
 
--- What a cut leaves of a step has old values, or those of the files before and of what a group makes of them. After a flush that is done it has those of the files.
+-- What a cut leaves of a step has old values, or those of the files before and of what a group makes of them. After a flush that is done it has those of the files, and after any sync those of the tree.
 pub record AreCutLaws : Type 0 where
   pub makes : (files : Files) (caller now : ℕ) (op : Op) → GroupMakes files caller now op
   pub pages : (old new : Journal) (tree left files : Tree) (group : List Change) → IfTold old (IsJournalOf tree) → PutsWith files group NotPut old new → MayLeave new left → HasValues old (ValuesOf files) left
@@ -44,6 +45,7 @@ pub record AreCutLaws : Type 0 where
       → HasValues old.backing.journal (ValuesOf (present_in old).tree) left
   pub flushed : (old new : FilesState) (caller now grant rest : ℕ) (left : Tree) → old.backing.mode ≡ ReadWrite → IsKept new.backing.tree new.kept → IfTold new.backing.journal (IsJournalOf new.backing.tree)
       → IsStep old new (Call caller now grant Flush) (Replied Done rest) → MayLeave new.backing.journal left → left ≡ without_nameless (present_in new).tree
+  pub synced : (state : BackingState) → IfTold state.journal (IsJournalOf state.tree) → IsSynced state → LeavesTree state
 
 -- Files that are alike answer and ask alike, an operation leaves files sound and changes little, and what it answers or refuses.
 pub record AreLaws : Type 0 where

@@ -14,11 +14,11 @@ ghost use Rattle.vfs_ops.specs.Passing.{IsStep};
 ghost use Rattle.vfs_ops.specs.Steps.{IsReady};
 ghost use Rattle.traced_files.specs.History.{files_behind};
 ghost use Rattle.traced_files.specs.Laws.{AreLaws};
-ghost use Rattle.traced_files.specs.Seen.{LeavesSeen, is_flush_done};
+ghost use Rattle.traced_files.specs.Seen.{LeavesSeen, is_synced_by};
 
 use buffered_files::{a_cut_leaves_what_was_put, clean_files_are_those_of_the_backing};
 use fs_laws::an_operation_leaves_files_sound;
-use fs_model::groups_make_the_changes;
+use fs_model::{a_cut_keeps_what_was_synced, groups_make_the_changes};
 use vfs_ops::{
     a_call_adds_few_nodes, a_cut_after_a_flush_leaves_the_files,
     a_cut_leaves_old_values_or_new_ones, a_plain_answer_is_no_refusal,
@@ -40,10 +40,11 @@ pub(crate) fn laws()
     a_cut_leaves_what_was_put();
     a_cut_leaves_old_values_or_new_ones();
     a_cut_after_a_flush_leaves_the_files();
+    a_cut_keeps_what_was_synced();
 }
 
-/// What a cut leaves behind a caller's step on a store that could be written was seen before its line or by it. If the step isn't a flush that
-/// was done, it may also be what a cut might have left before.
+/// What a cut leaves behind a caller's step on a store that could be written was seen before its line or by it, or a cut might have left it
+/// before. What a sync that was done made last is what callers see then.
 pub fn a_line_leaves_what_was_seen()
     ensures { (old new : FilesState) (line : TraceLine) (grant left : ℕ) → old.backing.mode ≡ ReadWrite → IsMoment line.now → IsCall line.op → IsReady old.backing old.kept → IsReady new.backing new.kept
         → IfTold old.backing.journal (IsJournalOf old.backing.tree) → IfTold new.backing.journal (IsJournalOf new.backing.tree)
@@ -52,9 +53,9 @@ pub fn a_line_leaves_what_was_seen()
     laws();
 }
 
-/// If the last line is a flush that was done, all that a cut leaves is what callers saw last: at each place their value, but an inode
-/// without a name may be gone.
-pub fn a_flush_leaves_what_was_seen_last()
-    ensures { (opening : Files) (before now : Journal) (lines : List TraceLine) (line : TraceLine) (left : Tree) (place : TreePlace) → is_flush_done line.op line.reply ≡ true → LeavesSeen opening before (lines ++ line ∷ []) now → MayLeave now left
+/// If the last line is a sync that was done, a cut leaves of what it synced what callers saw last: at each such place their value, but an inode
+/// without a name may be gone. A flush syncs all, an `fsync` its slot's file, names and inodes that aren't files'.
+pub fn a_sync_leaves_what_was_seen_last()
+    ensures { (opening : Files) (before now : Journal) (lines : List TraceLine) (line : TraceLine) (left : Tree) (place : TreePlace) → is_synced_by (files_behind opening lines) line.caller line.op line.reply place ≡ true → LeavesSeen opening before (lines ++ line ∷ []) now → MayLeave now left
         → ValuesOf (files_behind opening (lines ++ line ∷ [])).tree place (value_at left place) }
 {}

@@ -11,7 +11,7 @@ mod replies;
 mod site;
 mod traced;
 
-pub use crate::law::{a_flush_leaves_what_was_seen_last, a_line_leaves_what_was_seen};
+pub use crate::law::{a_line_leaves_what_was_seen, a_sync_leaves_what_was_seen_last};
 pub use crate::pass::Pass;
 pub use crate::passes::{Ledger, NewTrace, meet_all, open};
 pub use crate::site::Site;

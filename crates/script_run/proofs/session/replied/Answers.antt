@@ -1,19 +1,22 @@
-use Rattle.std.proofs.Common.{◌+◌, ap, arith, length, refl, sym, subst, ◌∙◌}
+use Rattle.std.proofs.Common.{◌+◌, ◌++◌, ap, arith, length, refl, sym, subst, ◌∙◌}
 use Rattle.std.specs.Prelude.{if◌then◌else◌}
 use Rattle.ubifs_base.specs.RawOf.{raw_of}
-use Rattle.fs_model.specs.Backing.{next_orphans}
+use Rattle.fs_model.specs.declared.reply.Reply.{Reply}
+use Rattle.fs_model.specs.Backing.{next_orphans, orphan_room}
 use Rattle.fs_model.specs.Orphan.{leaves_orphan}
 use Rattle.plain_backing.specs.PlainBacking.{backing_state_of}
 use Rattle.vfs_ops.specs.declared.event.Event.TheVariants.{Call}
 use Rattle.vfs_ops.specs.declared.event.Outcome.{Outcome}
+use Rattle.vfs_ops.specs.Events.{IsBufferedCall}
 use Rattle.vfs_ops.specs.Passing.{IsStep}
-use Rattle.vfs_ops.specs.Steps.{Passage}
+use Rattle.vfs_ops.specs.Steps.{Passage, asked, no_space_in}
+use Rattle.traced_files.proofs.Answering.{allowed_done}
 use Rattle.script_run.specs.Run.{script_line_of, nodes_added, nodes_for, orphans_told}
 use Rattle.script_run.specs.Sessions.{mounted_over}
-use Rattle.script_run.proofs.Answering.{answer_of, exact_of, grows_of, issued_of, no_room, reply_of, steady_next, told_of, weighed_of, written_of}
+use Rattle.script_run.proofs.Answering.{answer_of, asks_of, exact_of, grows_of, issued_of, no_room, reply_of, steady_next, told_of, weighed_of, written_of}
 use Rattle.script_run.proofs.AtOnce.{over}
 use Rattle.script_run.proofs.Growth.{grown_of}
-use Rattle.script_run.proofs.Leaving.{told_journal}
+use Rattle.script_run.proofs.Leaving.{stored_left, told_journal}
 use Rattle.script_run.proofs.Storing.{still_of, stored_of}
 use Rattle.vfs_ops.proofs.Truncating.{few_asked}
 use Rattle.script_run.proofs.session.replied.Goals as goal
@@ -60,6 +63,9 @@ returns-clause-replied c =
             orphans = ap (λ n. n + (backing_state_of old).closed) (sym (nameless (backing_state_of old).tree before c.args.fs.now.ready.kept_fits));
           })
           (no_room geo (backing_state_of old) new after c.args.now steady fits clean)
+          (λ sides turned done there refused noted. asks_of (backing_state_of old) (backing_state_of new) before after c.args.caller c.args.now c.args.op reply first.refused last.refused sides (asked was.files c.args.caller c.args.now 0 c.args.op) turned done
+          (allowed_done (orphan_room (backing_state_of old)) (backing_state_of old).orphan_limit was.files c.args.caller c.args.now c.args.op done there) (noted ∙ ap (λ (r : Reply). first.refused ++ no_space_in r) refused) step.at_once
+          (subst (λ (o : Outcome). IsBufferedCall (backing_state_of old) (backing_state_of new) before after first.refused last.refused (Call c.args.caller c.args.now 0 c.args.op) o) is step.buffered))
           (sym c.is_memory.ensures ∙ c.if-is_memory.false) refl told.0;
       orphans = grows_of (orphans_told was) (orphans_told here) (next_orphans (backing_state_of old)) (next_orphans (backing_state_of new)) (if leaves_orphan was.files here.files then 1 else 0)
           (ap (λ n. n + (backing_state_of old).closed) (nameless (backing_state_of old).tree before c.args.fs.now.ready.kept_fits)) (ap (λ n. n + (backing_state_of new).closed) (nameless (backing_state_of new).tree after fits))
@@ -68,6 +74,7 @@ returns-clause-replied c =
       synced = stored_of old new before after c.args.now c.args.caller c.args.op reply fits clean (written_of (backing_state_of old) (backing_state_of new) before after c.args.caller c.args.now c.args.op c.step-outcome.result reply left c.requires.steady.mode is step.written);
       left = c.a_line_leaves_what_was_seen.ensures first last (script_line_of was c.args.caller c.args.op reply) 0 left c.requires.steady.mode (omega arith) c.requires.call c.args.fs.now.ready c.step-outcome.new.self.ready (told_journal old) (told_journal new)
           (subst (λ (o : Outcome). IsStep first last (Call c.args.caller c.args.now 0 c.args.op) o) is step);
+      stored = stored_left new;
       still = still_of passage c.args.caller c.args.now c.args.op reply left c.a_plain_answer_is_no_refusal.ensures c.args.fs.now.ready.sound (exact_of passage c.args.caller c.args.now c.args.op c.step-outcome.result reply left is step.exact);
       grown = grown_of old new before after c.args.now (nodes_added was c.args.caller c.args.op reply) (nodes_for was c.args.caller c.args.op) _
           (weighed_of passage c.args.caller c.args.now c.args.op c.step-outcome.result reply left is step.weighed) step.goes (omega arith);

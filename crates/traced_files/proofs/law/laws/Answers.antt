@@ -18,5 +18,6 @@ returns c = record {
     event = c.a_cut_leaves_old_values_or_new_ones.ensures.event;
     refused = c.a_cut_leaves_old_values_or_new_ones.ensures.refused;
     flushed = c.a_cut_after_a_flush_leaves_the_files.ensures;
+    synced = c.a_cut_keeps_what_was_synced.ensures.now;
   };
 }
