@@ -53,7 +53,7 @@ returns-clause-replied c =
     let last = over new after c.step-outcome.new.self.refused.items in
     let passage : Passage = record { old = backing_state_of old; new = backing_state_of new; before = before; after = after } in
     record {
-      answer = answer_of geo (backing_state_of old) (backing_state_of new) after was here c.args.caller c.args.op reply _ _
+      answer = answer_of geo (backing_state_of old) (backing_state_of new) after was here c.args.caller c.args.op reply first.refused last.refused
           (record {
             was = c.requires.steady.mode;
             is = steady.mode;
