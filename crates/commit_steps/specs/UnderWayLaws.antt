@@ -13,9 +13,9 @@ use Rattle.index_media.specs.Stored.{IsIndexNodeAt, IsStoredIndex}
 use Rattle.media_sys.specs.Index.{Index}
 use Rattle.media_sys.specs.SystemNode.{IsSystemNode, index as index_node}
 use Rattle.media_sys.specs.declared.branch.Branch.{Branch}
-use Rattle.node_table.specs.NodeView.{tree_at}
+use Rattle.table_nodes.specs.NodeView.{tree_at}
 use Rattle.node_table.specs.Placing.{KeepsPlaces}
-use Rattle.node_table.specs.declared.node.Root.{Root}
+use Rattle.table_nodes.specs.declared.node.Root.{Root}
 use Rattle.ubi_volume.specs.Frame.{Elsewhere, Works}
 use Rattle.ubi_volume.specs.FrameLaws.{IsSameLeb-keeps, IsSameLeb-none, IsSameLeb-then, Only-same, Works-on}
 use Rattle.ubi_volume.specs.Volume.{VolumeState, Keeps, Leaves, Only, UnderWay, WorksOn}

@@ -5,9 +5,9 @@ use Rattle.ubifs_base.specs.declared.key.Key.{Key}
 use Rattle.index_tree.specs.Shape.{node, done, node_count}
 use Rattle.index_media.specs.KeyedRow.{KeyedRow, no_more, bare}
 use Rattle.node_table.specs.Dirty.{dirty_among}
-use Rattle.node_table.specs.NodeView.{NodeView, node_before, row_of, children_in}
-use Rattle.node_table.specs.declared.link.Link.{Link}
-use Rattle.node_table.specs.declared.link.Link.TheVariants.{ToLeaf, ToNode}
+use Rattle.table_nodes.specs.NodeView.{NodeView, node_before, row_of, children_in}
+use Rattle.table_nodes.specs.declared.link.Link.{Link}
+use Rattle.table_nodes.specs.declared.link.Link.TheVariants.{ToLeaf, ToNode}
 
 -- those of one link, and those behind it
 first_apart : (known : List (List ℕ)) (link : Link) (rest : List Link) → dirty_among known (link ∷ rest) ≡ dirty_among known (link ∷ []) ++ dirty_among known rest

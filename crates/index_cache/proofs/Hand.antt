@@ -5,14 +5,14 @@ use Rattle.ubifs_base.specs.declared.key.Key.{Key}
 use Rattle.index_media.specs.KeyedRow.{KeyedRow, no_more, leaf_in, node_in, all_clean}
 use Rattle.index_media.specs.PlacedRow.{ended, leaf_at, node_at}
 use Rattle.index_tree.specs.declared.leaf.Leaf.{Leaf}
-use Rattle.node_table.specs.BeyondLaws.{loaded_row}
+use Rattle.table_nodes.specs.BeyondLaws.{loaded_row}
 use Rattle.node_table.specs.Dirty.{dirty_lists, dirty_node, dirty_among}
-use Rattle.node_table.specs.NodeView.{row_of, stretch_at, tree_at, view_of}
+use Rattle.table_nodes.specs.NodeView.{row_of, stretch_at, tree_at, view_of}
 use Rattle.node_table.specs.Placing.{with_place}
-use Rattle.node_table.specs.declared.link.Link.{Link}
-use Rattle.node_table.specs.declared.link.Link.TheVariants.{ToLeaf, ToNode}
-use Rattle.node_table.specs.declared.node.NodePlace.{NodePlace}
-use Rattle.node_table.specs.declared.node.TableNode.{TableNode}
+use Rattle.table_nodes.specs.declared.link.Link.{Link}
+use Rattle.table_nodes.specs.declared.link.Link.TheVariants.{ToLeaf, ToNode}
+use Rattle.table_nodes.specs.declared.node.NodePlace.{NodePlace}
+use Rattle.table_nodes.specs.declared.node.TableNode.{TableNode}
 use Rattle.index_cache.specs.Worked.{AreThreeNodes, placed_branch}
 
 -- the lists of three nodes of these places and links

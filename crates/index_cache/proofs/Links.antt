@@ -5,12 +5,12 @@ use Rattle.ubifs_base.specs.declared.key.Key.{Key}
 use Rattle.index_tree.specs.declared.leaf.Leaf.{Leaf}
 use Rattle.index_media.specs.KeyedRow.{KeyedRow, no_more, leaf_in, node_in}
 use Rattle.index_media.specs.PlacedRow.{Stretch}
-use Rattle.node_table.specs.NodeView.{NodeView, node_before, linked_before, row_of, views, tree_at, IsRootIn}
-use Rattle.node_table.specs.Staging.{row_before, IsLinkIn, AreLinksIn, IsAdded}
-use Rattle.node_table.specs.declared.link.Link.{Link}
-use Rattle.node_table.specs.declared.link.Link.TheVariants.{ToLeaf, ToNode}
-use Rattle.node_table.specs.declared.node.Root.{Root}
-use Rattle.node_table.specs.declared.node.TableNode.{TableNode}
+use Rattle.table_nodes.specs.NodeView.{NodeView, node_before, linked_before, row_of, views, tree_at, IsRootIn}
+use Rattle.table_nodes.specs.Links.{row_before, IsLinkIn, AreLinksIn, IsAdded}
+use Rattle.table_nodes.specs.declared.link.Link.{Link}
+use Rattle.table_nodes.specs.declared.link.Link.TheVariants.{ToLeaf, ToNode}
+use Rattle.table_nodes.specs.declared.node.Root.{Root}
+use Rattle.table_nodes.specs.declared.node.TableNode.{TableNode}
 
 -- the law of the table that roots stay
 abbrev pub Stays : Type 0

@@ -15,7 +15,7 @@ use Rattle.index_media.specs.PlacedRow.{PlacedRow, ended, leaf_at, node_at, plai
 use Rattle.index_media.specs.Stored.{AreStored}
 use Rattle.node_cache.specs.Loaded.{IsRowOn}
 use Rattle.node_cache.specs.RowsOn.{below, clean_bounded, said_by}
-use Rattle.node_table.specs.Sound.{IsSoundView}
+use Rattle.table_nodes.specs.Sound.{IsSoundView}
 use Rattle.ubi_volume.specs.Volume.{VolumeState}
 
 stored_levelled : (media : ℕ → List ℕ) (levels : ℕ) (row : PlacedRow) → AreStored media levels row → levelled levels (plain row) ≡ true

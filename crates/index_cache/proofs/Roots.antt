@@ -6,7 +6,7 @@ use Rattle.ubifs_base.specs.declared.key.Key.{Key}
 use Rattle.media_sys.specs.Index.{Index}
 use Rattle.media_sys.specs.declared.branch.Branch.{Branch}
 use Rattle.index_media.specs.Stored.{IsIndexNodeAt}
-use Rattle.node_table.specs.declared.node.NodePlace.{NodePlace}
+use Rattle.table_nodes.specs.declared.node.NodePlace.{NodePlace}
 use Rattle.index_cache.specs.Loaded.{root_at}
 
 pub any_key : (media : ℕ → List ℕ) (place : NodePlace) (key other : Key) (said : Index) → IsIndexNodeAt media (root_at place key) said → IsIndexNodeAt media (root_at place other) said

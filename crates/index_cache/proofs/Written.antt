@@ -16,13 +16,13 @@ use Rattle.index_media.specs.KeyedRow.{KeyedRow, no_more, leaf_in, node_in, bare
 use Rattle.index_media.specs.PlacedRow.{Stretch, plain, branch_to, branches_of}
 use Rattle.media_sys.specs.Index.{IsIdxNode, in_order}
 use Rattle.media_sys.specs.declared.branch.Branch.{Branch}
-use Rattle.node_table.specs.NodeView.{NodeView, views, view_of, row_of, node_before, children_in, tree_at}
+use Rattle.table_nodes.specs.NodeView.{NodeView, views, view_of, row_of, node_before, children_in, tree_at}
 use Rattle.node_table.specs.Pruning.{place_in}
-use Rattle.node_table.specs.Sound.{IsSoundView, AreSoundViews}
-use Rattle.node_table.specs.declared.link.Link.{Link}
-use Rattle.node_table.specs.declared.link.Link.TheVariants.{ToLeaf, ToNode}
-use Rattle.node_table.specs.declared.node.Root.{Root}
-use Rattle.node_table.specs.declared.node.TableNode.{TableNode}
+use Rattle.table_nodes.specs.Sound.{IsSoundView, AreSoundViews}
+use Rattle.table_nodes.specs.declared.link.Link.{Link}
+use Rattle.table_nodes.specs.declared.link.Link.TheVariants.{ToLeaf, ToNode}
+use Rattle.table_nodes.specs.declared.node.Root.{Root}
+use Rattle.table_nodes.specs.declared.node.TableNode.{TableNode}
 use Rattle.index_cache.specs.Commit.{link_branch}
 
 -- the branches to what links lead to

@@ -1,7 +1,7 @@
 -- The root of an index that is loaded.
 use Rattle.ubifs_base.specs.declared.key.Key.{Key}
 use Rattle.media_sys.specs.declared.branch.Branch.{Branch}
-use Rattle.node_table.specs.declared.node.NodePlace.{NodePlace}
+use Rattle.table_nodes.specs.declared.node.NodePlace.{NodePlace}
 
 -- the branch to a root that stands at a place, with a key
 abbrev pub root_at : NodePlace → Key → Branch

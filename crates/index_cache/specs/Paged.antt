@@ -3,9 +3,10 @@ use Rattle.std.specs.Prelude.{◌≡◌, ℕ, List, Option}
 use Rattle.index_tree.specs.declared.leaf.Leaf.{Leaf}
 use Rattle.index_media.specs.KeyedRow.{KeyedRow}
 use Rattle.node_table.specs.Dirty.{dirty_below}
-use Rattle.node_table.specs.NodeView.{tree_at, leaves_at}
-use Rattle.node_table.specs.Staging.{IsAdded, IsSoundRoot}
-use Rattle.node_table.specs.declared.node.Root.{Root}
+use Rattle.table_nodes.specs.NodeView.{tree_at, leaves_at}
+use Rattle.table_nodes.specs.Links.{IsAdded}
+use Rattle.node_table.specs.Staging.{IsSoundRoot}
+use Rattle.table_nodes.specs.declared.node.Root.{Root}
 use Rattle.index_cache.specs.declared.paged.PagedIndex.{PagedIndex}
 
 -- its shape, with the keys of branches, and with places where nodes are clean

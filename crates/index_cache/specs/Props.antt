@@ -9,9 +9,9 @@ use Rattle.index_media.specs.InsertionSound.{AreKeys}
 use Rattle.index_media.specs.KeyedKeys.{key_before, AreKeysBounded}
 use Rattle.index_media.specs.KeyedRow.{KeyedRow, no_more, leaf_in, node_in}
 use Rattle.index_media.specs.Keys.{IsAtMost}
-use Rattle.node_table.specs.NodeView.{IsRootIn}
-use Rattle.node_table.specs.declared.node.Root.{Root}
-use Rattle.node_table.specs.declared.node.TableNode.{TableNode}
+use Rattle.table_nodes.specs.NodeView.{IsRootIn}
+use Rattle.table_nodes.specs.declared.node.Root.{Root}
+use Rattle.table_nodes.specs.declared.node.TableNode.{TableNode}
 
 pub root_in-prop : (nodes : List TableNode) (root : Option Root) → IsProp (IsRootIn nodes root)
 root_in-prop nodes None = hlevel props

@@ -3,9 +3,9 @@ use Rattle.std.specs.Prelude.{◌≡◌, None, [], ◌∷◌}
 use Rattle.ubifs_base.specs.declared.key.Key.{Key}
 use Rattle.index_tree.specs.declared.leaf.Leaf.{Leaf}
 use Rattle.media_sys.specs.declared.branch.Branch.{Branch}
-use Rattle.node_table.specs.declared.link.Link.TheVariants.{ToLeaf, ToNode}
-use Rattle.node_table.specs.declared.node.NodePlace.{NodePlace}
-use Rattle.node_table.specs.declared.node.TableNode.{TableNode}
+use Rattle.table_nodes.specs.declared.link.Link.TheVariants.{ToLeaf, ToNode}
+use Rattle.table_nodes.specs.declared.node.NodePlace.{NodePlace}
+use Rattle.table_nodes.specs.declared.node.TableNode.{TableNode}
 
 -- two dirty nodes with a leaf each, and a dirty root over them
 pub record AreThreeNodes (x y : Leaf) (a b : Key) (left right top : TableNode) : Type 0 where

@@ -13,7 +13,7 @@ ghost use Rattle.index_tree.specs.Replacement.{swapped};
 ghost use Rattle.index_tree.specs.Shape.{fits, node_count, shape_weight};
 ghost use Rattle.node_table.specs.Changing.{IsChange, AreChanges, changed, changed_by, leaves_after, leaves_after_all};
 ghost use Rattle.node_table.specs.Exchange.{tree_without};
-ghost use Rattle.node_table.specs.NodeView.{tree_at, leaves_at};
+ghost use Rattle.table_nodes.specs.NodeView.{tree_at, leaves_at};
 ghost use Rattle.node_table.specs.Staging.{IsSoundRoot};
 ghost use Rattle.ubifs_base.specs.Key.{IsKey};
 ghost use Rattle.index_cache.specs.Paged.{tree_of, leaves_of, frozen_of, fanout_of, KeepsNodes};
@@ -21,8 +21,9 @@ ghost use Rattle.index_cache.specs.Paged.{tree_of, leaves_of, frozen_of, fanout_
 use crate::paged::PagedIndex;
 use index_media::a_range_removal_leaves_the_keys_of_branches;
 use index_tree::Leaf;
-use node_table::{Change, NodeTable, Root, roots_stay};
+use node_table::{Change, NodeTable, roots_stay};
 use std::alloc::Global;
+use table_nodes::Root;
 use ubifs_base::{Key, Memory};
 
 /// Changes that are made and not yet seen: the root that they make.

@@ -16,8 +16,9 @@ use crate::paged::PagedIndex;
 use index_media::an_insertion_goes_by_the_keys_of_branches;
 use index_tree::Leaf;
 use media_sys::Branch;
-use node_table::{Change, NodePlace, places_are_kept, roots_stay};
+use node_table::{Change, places_are_kept, roots_stay};
 use std::alloc::Global;
+use table_nodes::NodePlace;
 use ubi_volume::{AreaFault, Volume};
 use ubifs_base::{Geometry, Memory};
 

@@ -8,10 +8,10 @@ ghost use Rattle.index_tree.specs.Levels.{levelled};
 ghost use Rattle.index_tree.specs.Shape.{fits, is_whole};
 ghost use Rattle.media_sys.specs.Index.{in_order};
 ghost use Rattle.media_sys.specs.SystemNode.{IsSystemNode, index, written};
-ghost use Rattle.node_table.specs.NodeView.{tree_at};
+ghost use Rattle.table_nodes.specs.NodeView.{tree_at};
 ghost use Rattle.node_table.specs.Placing.{with_place, IsPlacedRow, without_number};
 ghost use Rattle.node_table.specs.Staging.{IsSoundRoot};
-ghost use Rattle.node_table.specs.declared.node.Root.{Root as ARoot};
+ghost use Rattle.table_nodes.specs.declared.node.Root.{Root as ARoot};
 ghost use Rattle.index_cache.specs.Commit.{IsNextNode, said_of, below_node, node_length, place_for};
 ghost use Rattle.index_cache.specs.Paged.{tree_of, frozen_of, dirty_of, fanout_of, KeepsRoots};
 
@@ -19,7 +19,8 @@ use crate::buffer::NodeBuffer;
 use crate::paged::PagedIndex;
 use crate::writing::{are_in_order, branch_to_node, tell_node};
 use media_sys::Branch;
-use node_table::{NodePlace, clean_rows_are_placed};
+use node_table::clean_rows_are_placed;
+use table_nodes::NodePlace;
 
 /// A dirty node: its number, its level, and its length on the medium in bytes.
 #[derive(Clone, Copy, Debug, PartialEq, Eq)]

@@ -4,11 +4,12 @@ ghost use Rattle.std.specs.Prelude.{◌≡◌, ◌≤◌, ◌∷◌, [], ◌-◌
 ghost use Rattle.index_media.specs.KeyedRow.{bare};
 ghost use Rattle.index_tree.specs.Shape.{node, done, node_count};
 ghost use Rattle.node_table.specs.Dirty.{dirty_lists, dirty_among, dirty_from};
-ghost use Rattle.node_table.specs.NodeView.{views, row_of, children_in};
+ghost use Rattle.table_nodes.specs.NodeView.{views, row_of, children_in};
 ghost use Rattle.index_cache.specs.Paged.{dirty_of};
 
 use crate::paged::PagedIndex;
-use node_table::{Link, NodeTable};
+use node_table::NodeTable;
+use table_nodes::Link;
 
 impl PagedIndex {
     /// How many nodes of the frozen index are dirty: as many as a commit has to write.

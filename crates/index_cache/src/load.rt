@@ -4,10 +4,10 @@ ghost use Rattle.std.specs.Prelude.{◌≡◌, ◌+◌, ◌<◌, true, IfOk, OnO
 ghost use Rattle.index_media.specs.Clean.{is_clean_row};
 ghost use Rattle.index_media.specs.KeyedRow.{KeyedRow, no_more, node_in, all_clean};
 ghost use Rattle.index_media.specs.PlacedRow.{PlacedRow, ended, node_at, branches_of, stretch_of, leaf_of};
-ghost use Rattle.node_table.specs.NodeView.{views, row_of, linked_before};
-ghost use Rattle.node_table.specs.Sound.{IsSoundView};
-ghost use Rattle.node_table.specs.Staging.{row_before, AreLinksIn, IsAdded};
-ghost use Rattle.node_table.specs.declared.link.Link.TheVariants.{ToNode};
+ghost use Rattle.table_nodes.specs.NodeView.{views, row_of, linked_before};
+ghost use Rattle.table_nodes.specs.Sound.{IsSoundView};
+ghost use Rattle.table_nodes.specs.Links.{row_before, AreLinksIn, IsAdded};
+ghost use Rattle.table_nodes.specs.declared.link.Link.TheVariants.{ToNode};
 ghost use Rattle.ubifs_base.specs.declared.key.Key.{Key as AKey};
 ghost use Rattle.node_cache.specs.Loaded.{IsRead, IsIndexOn, IsRowOn};
 ghost use Rattle.index_cache.specs.Paged.{tree_of, frozen_of, fanout_of};
@@ -16,8 +16,9 @@ use crate::paged::PagedIndex;
 use index_tree::Leaf;
 use media_sys::Branch;
 use node_cache::read_node;
-use node_table::{Link, NodePlace, NodeTable, Root, TableNode, roots_stay};
+use node_table::{NodeTable, roots_stay};
 use std::alloc::Global;
+use table_nodes::{Link, NodePlace, Root, TableNode};
 use ubi_volume::{AreaFault, Volume};
 use ubifs_base::{Geometry, Memory};
 

@@ -1,12 +1,13 @@
 // The index that is kept.
 
-ghost use Rattle.node_table.specs.NodeView.{tree_at, IsRootIn};
+ghost use Rattle.table_nodes.specs.NodeView.{tree_at, IsRootIn};
 ghost use Rattle.index_media.specs.InsertionSound.{AreKeys};
 ghost use Rattle.index_media.specs.KeyedKeys.{AreKeysBounded};
 ghost use Rattle.std.specs.Prelude.{None};
 ghost use Rattle.index_cache.specs.Props.{root_in-prop, keys-prop, bounded-prop};
 
-use node_table::{NodeTable, Root};
+use node_table::NodeTable;
+use table_nodes::Root;
 
 /// An index: nodes in a table, the root of those that are seen (none: the index is empty), and the root of those that a
 /// commit writes (none: there are none).

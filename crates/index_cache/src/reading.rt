@@ -10,8 +10,8 @@ ghost use Rattle.node_cache.specs.Loaded.{IsRead};
 
 use media_sys::Branch;
 use node_cache::read_node;
-use node_table::NodePlace;
 use std::alloc::Global;
+use table_nodes::NodePlace;
 use ubi_volume::{AreaFault, Volume};
 use ubifs_base::Key;
 

@@ -5,10 +5,10 @@ ghost use Rattle.index_media.specs.KeyedRow.{all_clean};
 ghost use Rattle.index_media.specs.PlacedRow.{ended, leaf_at, node_at};
 ghost use Rattle.index_tree.specs.declared.leaf.Leaf.{Leaf as ALeaf};
 ghost use Rattle.node_table.specs.Dirty.{dirty_lists};
-ghost use Rattle.node_table.specs.NodeView.{tree_at};
+ghost use Rattle.table_nodes.specs.NodeView.{tree_at};
 ghost use Rattle.node_table.specs.Placing.{with_place};
-ghost use Rattle.node_table.specs.declared.node.NodePlace.{NodePlace as APlace};
-ghost use Rattle.node_table.specs.declared.node.TableNode.{TableNode as ANode};
+ghost use Rattle.table_nodes.specs.declared.node.NodePlace.{NodePlace as APlace};
+ghost use Rattle.table_nodes.specs.declared.node.TableNode.{TableNode as ANode};
 ghost use Rattle.ubifs_base.specs.declared.key.Key.{Key as AKey};
 ghost use Rattle.index_cache.specs.Worked.{AreThreeNodes, placed_branch};
 

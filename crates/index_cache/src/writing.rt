@@ -4,13 +4,14 @@ ghost use Rattle.std.specs.Prelude.{◌≡◌, ◌≤◌, ◌+◌, ◌++◌, len
 ghost use Rattle.index_media.specs.Clean.{node_branch, placed_of};
 ghost use Rattle.index_media.specs.PlacedRow.{branches_of};
 ghost use Rattle.media_sys.specs.Index.{in_order, is_entry as is_entry_key, may_follow as may_follow_key};
-ghost use Rattle.node_table.specs.NodeView.{views, row_of};
+ghost use Rattle.table_nodes.specs.NodeView.{views, row_of};
 ghost use Rattle.node_table.specs.Pruning.{place_in};
 ghost use Rattle.ubifs_base.specs.Key.{key_words};
 ghost use Rattle.index_cache.specs.Commit.{link_branch};
 
 use media_sys::{Branch, IdxNode};
-use node_table::{Link, NodeTable, TableNode};
+use node_table::NodeTable;
+use table_nodes::{Link, TableNode};
 use ubifs_base::Key;
 
 // The bits of a key's value, below its type.

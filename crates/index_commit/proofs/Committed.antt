@@ -16,8 +16,8 @@ use Rattle.index_media.specs.KeyedRow.{KeyedRow, no_more, leaf_in, node_in, all_
 use Rattle.index_media.specs.PlacedRow.{PlacedRow, ended, leaf_at, node_at, all_nodes, branches_of}
 use Rattle.index_media.specs.Standing.{AreStandingAs}
 use Rattle.media_sys.specs.declared.branch.Branch.{Branch}
-use Rattle.node_table.specs.NodeView.{tree_at}
-use Rattle.node_table.specs.declared.node.Root.{Root}
+use Rattle.table_nodes.specs.NodeView.{tree_at}
+use Rattle.table_nodes.specs.declared.node.Root.{Root}
 use Rattle.ubi_volume.specs.Volume.{VolumeState, Only}
 use Rattle.index_cache.specs.Paged.{dirty_of, fanout_of, frozen_of}
 use Rattle.index_cache.specs.declared.paged.PagedIndex.{PagedIndex}

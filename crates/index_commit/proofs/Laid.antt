@@ -14,10 +14,10 @@ use Rattle.index_media.specs.PlacedRow.{Stretch}
 use Rattle.index_media.specs.Standing.{AreStandingAs, StandsAs}
 use Rattle.media_sys.specs.SystemNode.{index, IsSystemNode}
 use Rattle.media_sys.specs.Index.{Index}
-use Rattle.node_table.specs.NodeView.{stretch_at, tree_at}
+use Rattle.table_nodes.specs.NodeView.{stretch_at, tree_at}
 use Rattle.node_table.specs.Placing.{IsPlacedRow, KeepsPlaces, with_place, without_number}
-use Rattle.node_table.specs.declared.node.NodePlace.{NodePlace}
-use Rattle.node_table.specs.declared.node.Root.{Root}
+use Rattle.table_nodes.specs.declared.node.NodePlace.{NodePlace}
+use Rattle.table_nodes.specs.declared.node.Root.{Root}
 use Rattle.index_cache.specs.Commit.{IsNextNode, below_node, node_length, place_for, said_of}
 use Rattle.index_cache.specs.Paged.{dirty_of, frozen_of, tree_of, KeepsRoots}
 use Rattle.index_cache.specs.declared.paged.PagedIndex.{PagedIndex}

@@ -7,15 +7,15 @@ use Rattle.index_media.specs.KeyedRow.{KeyedRow, no_more, leaf_in, node_in, all_
 use Rattle.index_media.specs.PlacedRow.{PlacedRow, ended, leaf_at, node_at, Stretch, branches_of}
 use Rattle.index_media.specs.Stored.{AreStored}
 use Rattle.media_sys.specs.Index.{in_order, may_follow}
-use Rattle.node_table.specs.BeyondLaws.{dirty_row}
+use Rattle.table_nodes.specs.BeyondLaws.{dirty_row}
 use Rattle.node_table.specs.Dirty.{dirty_among, dirty_behind, dirty_below, dirty_from, dirty_node}
-use Rattle.node_table.specs.NodeView.{NodeView, children_in, node_before, row_of, tree_at, view_of, views, views_behind}
+use Rattle.table_nodes.specs.NodeView.{NodeView, children_in, node_before, row_of, tree_at, view_of, views, views_behind}
 use Rattle.node_table.specs.Placing.{KeepsPlaces}
-use Rattle.node_table.specs.declared.link.Link.{Link}
-use Rattle.node_table.specs.declared.link.Link.TheVariants.{ToLeaf, ToNode}
-use Rattle.node_table.specs.declared.node.NodePlace.{NodePlace}
-use Rattle.node_table.specs.declared.node.Root.{Root}
-use Rattle.node_table.specs.declared.node.TableNode.{TableNode}
+use Rattle.table_nodes.specs.declared.link.Link.{Link}
+use Rattle.table_nodes.specs.declared.link.Link.TheVariants.{ToLeaf, ToNode}
+use Rattle.table_nodes.specs.declared.node.NodePlace.{NodePlace}
+use Rattle.table_nodes.specs.declared.node.Root.{Root}
+use Rattle.table_nodes.specs.declared.node.TableNode.{TableNode}
 use Rattle.index_cache.specs.Paged.{frozen_of}
 use Rattle.index_cache.specs.declared.paged.PagedIndex.{PagedIndex}
 use Rattle.index_commit.specs.Answers.{HasEqualKeys}

@@ -12,13 +12,13 @@ use Rattle.index_media.specs.Clean.{is_clean_row, placed_of}
 use Rattle.index_media.specs.KeyedRow.{KeyedRow, no_more, leaf_in, node_in}
 use Rattle.index_media.specs.PlacedRow.{Stretch, branches_of}
 use Rattle.media_sys.specs.Index.{Index}
-use Rattle.node_table.specs.NodeView.{NodeView, children_in, node_before, stretch_at, tree_at, view_of, views, views_behind}
+use Rattle.table_nodes.specs.NodeView.{NodeView, children_in, node_before, stretch_at, tree_at, view_of, views, views_behind}
 use Rattle.node_table.specs.Placing.{KeepsPlaces, with_place, without_number}
 use Rattle.node_table.specs.Pruning.{place_in}
-use Rattle.node_table.specs.declared.link.Link.{Link}
-use Rattle.node_table.specs.declared.node.NodePlace.{NodePlace}
-use Rattle.node_table.specs.declared.node.Root.{Root}
-use Rattle.node_table.specs.declared.node.TableNode.{TableNode}
+use Rattle.table_nodes.specs.declared.link.Link.{Link}
+use Rattle.table_nodes.specs.declared.node.NodePlace.{NodePlace}
+use Rattle.table_nodes.specs.declared.node.Root.{Root}
+use Rattle.table_nodes.specs.declared.node.TableNode.{TableNode}
 use Rattle.index_cache.specs.Commit.{below_node, level_in, node_length, said_of}
 use Rattle.index_cache.specs.declared.paged.PagedIndex.{PagedIndex}
 use Rattle.index_commit.specs.Rooms.{Room, AreDistinctNumbers, AreInRooms, IsInRoom, IsNotAmong, place_by_number}

@@ -11,9 +11,9 @@ use Rattle.index_media.specs.Stored.{IsIndexNodeAt}
 use Rattle.media_sys.specs.Index.{Index}
 use Rattle.media_sys.specs.SystemNode.{index, IsSystemNode}
 use Rattle.media_sys.specs.declared.branch.Branch.{Branch}
-use Rattle.node_table.specs.NodeView.{stretch_at}
+use Rattle.table_nodes.specs.NodeView.{stretch_at}
 use Rattle.node_table.specs.Placing.{IsPlacedRow}
-use Rattle.node_table.specs.declared.node.NodePlace.{NodePlace}
+use Rattle.table_nodes.specs.declared.node.NodePlace.{NodePlace}
 
 -- ---- clean rows
 pub and_left : (a b : Bool) → (a && b) ≡ true → a ≡ true

@@ -13,15 +13,15 @@ use Rattle.index_tree.specs.Shape.{Shape, done, leaf, node, contents, count, fit
 use Rattle.index_tree.specs.declared.leaf.Leaf.{Leaf}
 use Rattle.index_media.specs.InsertionSound.{fit_node}
 use Rattle.index_media.specs.KeyedRow.{KeyedRow, no_more, bare}
-use Rattle.node_table.specs.BeyondLaws.{dirty_row}
+use Rattle.table_nodes.specs.BeyondLaws.{dirty_row}
 use Rattle.node_table.specs.Dirty.{dirty_among, dirty_behind, dirty_below, dirty_from, dirty_lists, dirty_node}
-use Rattle.node_table.specs.NodeView.{NodeView, node_before, row_of, tree_at, view_of, views, views_behind}
-use Rattle.node_table.specs.Sound.{AreSoundViews, IsSoundView}
-use Rattle.node_table.specs.declared.link.Link.{Link}
-use Rattle.node_table.specs.declared.link.Link.TheVariants.{ToLeaf, ToNode}
-use Rattle.node_table.specs.declared.node.NodePlace.{NodePlace}
-use Rattle.node_table.specs.declared.node.Root.{Root}
-use Rattle.node_table.specs.declared.node.TableNode.{TableNode}
+use Rattle.table_nodes.specs.NodeView.{NodeView, node_before, row_of, tree_at, view_of, views, views_behind}
+use Rattle.table_nodes.specs.Sound.{AreSoundViews, IsSoundView}
+use Rattle.table_nodes.specs.declared.link.Link.{Link}
+use Rattle.table_nodes.specs.declared.link.Link.TheVariants.{ToLeaf, ToNode}
+use Rattle.table_nodes.specs.declared.node.NodePlace.{NodePlace}
+use Rattle.table_nodes.specs.declared.node.Root.{Root}
+use Rattle.table_nodes.specs.declared.node.TableNode.{TableNode}
 use Rattle.index_cache.specs.Paged.{dirty_of, fanout_of, frozen_of}
 use Rattle.index_cache.specs.declared.paged.PagedIndex.{PagedIndex}
 use Rattle.index_commit.specs.Lebs.{IsGiven}

@@ -8,11 +8,11 @@ use Rattle.index_media.specs.PlacedRow.{PlacedRow, Stretch, lebs_of}
 use Rattle.index_media.specs.Standing.{AreStandingAs}
 use Rattle.index_media.specs.Stored.{IsStoredIndex}
 use Rattle.media_sys.specs.declared.branch.Branch.{Branch}
-use Rattle.node_table.specs.NodeView.{tree_at}
+use Rattle.table_nodes.specs.NodeView.{tree_at}
 use Rattle.node_table.specs.Placing.{KeepsPlaces, without_number}
-use Rattle.node_table.specs.declared.link.Link.{Link}
-use Rattle.node_table.specs.declared.node.Root.{Root}
-use Rattle.node_table.specs.declared.node.TableNode.{TableNode}
+use Rattle.table_nodes.specs.declared.link.Link.{Link}
+use Rattle.table_nodes.specs.declared.node.Root.{Root}
+use Rattle.table_nodes.specs.declared.node.TableNode.{TableNode}
 use Rattle.ubi_volume.specs.Frame.{Elsewhere, IsSameLeb, Works}
 use Rattle.ubi_volume.specs.Volume.{VolumeState, Keeps, Leaves, Only, filled}
 use Rattle.index_cache.specs.Commit.{said_of}

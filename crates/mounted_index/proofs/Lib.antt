@@ -2,5 +2,5 @@ pub mod Shown
 pub mod Standing
 pub mod Committed
 pub mod Running
-pub mod CallerSteps
+pub mod ClientSteps
 pub mod Sizes

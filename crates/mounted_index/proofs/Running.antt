@@ -16,11 +16,11 @@ use Rattle.ubifs_base.specs.declared.key.Key.{Key}
 use Rattle.node_cache.specs.Kept.{AreKept}
 use Rattle.node_cache.specs.Loaded.{IsIndexOn}
 use Rattle.node_cache.specs.declared.cache.NodeCache.{NodeCache}
-use Rattle.node_table.specs.NodeView.{tree_at}
+use Rattle.table_nodes.specs.NodeView.{tree_at}
 use Rattle.node_table.specs.Placing.{KeepsPlaces}
 use Rattle.node_table.specs.Staging.{IsSoundRoot}
-use Rattle.node_table.specs.declared.node.Root.{Root}
-use Rattle.node_table.specs.declared.node.TableNode.{TableNode}
+use Rattle.table_nodes.specs.declared.node.Root.{Root}
+use Rattle.table_nodes.specs.declared.node.TableNode.{TableNode}
 use Rattle.index_cache.specs.Paged.{dirty_of, fanout_of, frozen_of, tree_of, KeepsNodes}
 use Rattle.index_cache.specs.declared.calls.Staged.{Staged}
 use Rattle.index_cache.specs.declared.commit.DirtyNode.{DirtyNode}

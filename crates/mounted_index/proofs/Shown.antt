@@ -10,7 +10,7 @@ use Rattle.media_sys.specs.declared.branch.Branch.{Branch}
 use Rattle.node_cache.specs.Loaded.{IsIndexOn}
 use Rattle.node_cache.specs.RowsOn.{index_moved}
 use Rattle.node_table.specs.Changing.{changed_by}
-use Rattle.node_table.specs.NodeView.{tree_at}
+use Rattle.table_nodes.specs.NodeView.{tree_at}
 use Rattle.node_table.specs.Staging.{IsSoundRoot}
 use Rattle.node_table.specs.declared.change.Change.{Change}
 use Rattle.ubi_volume.specs.Volume.{VolumeState, Keeps, SameShape}

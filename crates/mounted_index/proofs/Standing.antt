@@ -14,11 +14,11 @@ use Rattle.index_media.specs.KeyedRange.{pruned_by_keys, without_range_by_keys}
 use Rattle.index_media.specs.KeyedRemoval.{keyed_collapsed, removed_by_keys, replaced_by_keys, without_leaf_by_keys}
 use Rattle.index_media.specs.KeyedRow.{KeyedRow, no_more, leaf_in, node_in, bare}
 use Rattle.node_table.specs.Changing.{changed, changed_by}
-use Rattle.node_table.specs.NodeView.{NodeView, node_before, tree_at, views}
+use Rattle.table_nodes.specs.NodeView.{NodeView, node_before, tree_at, views}
 use Rattle.node_table.specs.declared.change.Change.{Change}
 use Rattle.node_table.specs.declared.change.Change.TheVariants.{Insert, Remove, RemoveRange, Replace}
-use Rattle.node_table.specs.declared.node.Root.{Root}
-use Rattle.node_table.specs.declared.node.TableNode.{TableNode}
+use Rattle.table_nodes.specs.declared.node.Root.{Root}
+use Rattle.table_nodes.specs.declared.node.TableNode.{TableNode}
 use Rattle.commit_steps.specs.UnderWayLaws.{outside_of, within_of}
 use Rattle.index_commit.specs.Standing.{AreOutside}
 use Rattle.ubi_volume.specs.Volume.{VolumeState, Keeps, SameShape}

@@ -10,16 +10,16 @@ use Rattle.index_media.specs.Clean.{is_clean_row}
 use Rattle.index_media.specs.InsertionSound.{fit_node}
 use Rattle.index_media.specs.KeyedRow.{KeyedRow, no_more, leaf_in, node_in, all_clean, bare}
 use Rattle.index_media.specs.PlacedRow.{Stretch}
-use Rattle.node_table.specs.BeyondLaws.{dirty_row}
+use Rattle.table_nodes.specs.BeyondLaws.{dirty_row}
 use Rattle.node_table.specs.Clean.{are_clean_below, is_clean_below}
 use Rattle.node_table.specs.Dirty.{dirty_among, dirty_behind, dirty_below, dirty_lists, dirty_node}
-use Rattle.node_table.specs.NodeView.{NodeView, IsRootIn, node_before, row_of, stretch_at, tree_at, view_of, views, views_behind}
-use Rattle.node_table.specs.Sound.{AreSoundViews, IsSoundView}
-use Rattle.node_table.specs.declared.link.Link.{Link}
-use Rattle.node_table.specs.declared.link.Link.TheVariants.{ToLeaf, ToNode}
-use Rattle.node_table.specs.declared.node.NodePlace.{NodePlace}
-use Rattle.node_table.specs.declared.node.Root.{Root}
-use Rattle.node_table.specs.declared.node.TableNode.{TableNode}
+use Rattle.table_nodes.specs.NodeView.{NodeView, IsRootIn, node_before, row_of, stretch_at, tree_at, view_of, views, views_behind}
+use Rattle.table_nodes.specs.Sound.{AreSoundViews, IsSoundView}
+use Rattle.table_nodes.specs.declared.link.Link.{Link}
+use Rattle.table_nodes.specs.declared.link.Link.TheVariants.{ToLeaf, ToNode}
+use Rattle.table_nodes.specs.declared.node.NodePlace.{NodePlace}
+use Rattle.table_nodes.specs.declared.node.Root.{Root}
+use Rattle.table_nodes.specs.declared.node.TableNode.{TableNode}
 use Rattle.index_cache.specs.Paged.{fanout_of}
 use Rattle.index_cache.specs.declared.paged.PagedIndex.{PagedIndex}
 use Rattle.ubi_volume.specs.Volume.{VolumeState}

@@ -9,7 +9,7 @@ use Rattle.index_media.specs.KeyedRow.{KeyedRow, all_clean}
 use Rattle.index_media.specs.PlacedRow.{PlacedRow}
 use Rattle.node_cache.specs.Kept.{AreKept}
 use Rattle.node_cache.specs.Loaded.{IsIndexOn}
-use Rattle.node_table.specs.NodeView.{tree_at}
+use Rattle.table_nodes.specs.NodeView.{tree_at}
 use Rattle.node_table.specs.Staging.{IsSoundRoot}
 use Rattle.ubi_volume.specs.Volume.{VolumeState}
 use Rattle.mounted_index.specs.declared.mounted.IndexNodes.{IndexNodes}

@@ -3,3 +3,4 @@ pub mod RowsOn
 pub mod Kept
 pub mod Branches
 pub mod FirstAt
+pub mod LastBlockLaws

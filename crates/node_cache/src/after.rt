@@ -11,7 +11,7 @@ ghost use Rattle.node_cache.specs.Loaded.{IsIndexOn, IsRead, IsRowOn};
 use crate::bisect::branches_passed;
 use crate::branches::{begin_within, leaf_to};
 use crate::cache::NodeCache;
-use crate::rank::rank;
+use crate::ranks::rank;
 use index_tree::Leaf;
 use media_sys::Branch;
 use std::alloc::Global;
@@ -43,7 +43,7 @@ impl NodeCache {
 
     /// The first leaf of a greater rank below the node to which a branch leads.
     #[cycle(following)]
-    fn after_below<V: Volume>(
+    pub fn after_below<V: Volume>(
         &mut self,
         alloc: Global,
         volume: &mut V,

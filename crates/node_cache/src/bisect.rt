@@ -3,7 +3,7 @@
 ghost use Rattle.std.specs.Prelude.{◌≡◌, ◌-◌, ◌<◌, ◌≤◌, true, length, drop};
 ghost use Rattle.node_cache.specs.Branches.{branches_begin};
 
-use crate::rank::rank;
+use crate::ranks::rank;
 use media_sys::Branch;
 
 // So many branches are walked from their start: a bisection of them isn't faster.

@@ -4,7 +4,7 @@ ghost use Rattle.std.specs.Prelude.{◌≡◌, ◌-◌, ◌<◌, true};
 ghost use Rattle.index_media.specs.PlacedRow.{leaf_of};
 ghost use Rattle.node_cache.specs.Branches.{branches_begin};
 
-use crate::rank::rank;
+use crate::ranks::rank;
 use index_tree::Leaf;
 use media_sys::Branch;
 

@@ -12,7 +12,7 @@ use crate::bisect::lower_branches_passed;
 use crate::branches::{begin_below, begin_within, leaf_to};
 use crate::cache::NodeCache;
 use crate::nth::Nth;
-use crate::rank::rank;
+use crate::ranks::rank;
 use index_tree::Leaf;
 use media_sys::Branch;
 use std::alloc::Global;
@@ -49,7 +49,7 @@ impl NodeCache {
     /// The leaf of this rank behind `nth` others of the same below the node to which a branch leads; where there are too few of them,
     /// how many of `nth` they leave.
     #[cycle(finding)]
-    fn find_below<V: Volume>(
+    pub fn find_below<V: Volume>(
         &mut self,
         alloc: Global,
         volume: &mut V,

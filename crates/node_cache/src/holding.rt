@@ -11,7 +11,7 @@ ghost use Rattle.node_cache.specs.Loaded.{IsIndexOn, IsRead, IsRowOn};
 use crate::bisect::lower_branches_passed;
 use crate::branches::{begin_below, begin_within, leaf_to};
 use crate::cache::NodeCache;
-use crate::rank::rank;
+use crate::ranks::rank;
 use index_tree::Leaf;
 use media_sys::Branch;
 use std::alloc::Global;
@@ -19,7 +19,7 @@ use ubi_volume::{AreaFault, Volume};
 
 /// Whether two leaves have the same key and the same place.
 #[tactic(auto, unfolding(index_tree::specs::Removal::same_leaf))]
-fn same(x: &Leaf, y: &Leaf) -> bool
+pub fn same_leaf(x: &Leaf, y: &Leaf) -> bool
     ensures { result ≡ same_leaf x.now y.now }
 {
     if rank(&x.key) != rank(&y.key) {
@@ -38,7 +38,7 @@ fn same(x: &Leaf, y: &Leaf) -> bool
 fn one_held(leaf: Leaf, sought: &Leaf) -> bool
     ensures { result ≡ holds sought.now (leaf ∷ []) }
 {
-    if same(&leaf, sought) {
+    if same_leaf(&leaf, sought) {
         return true;
     }
     false
@@ -69,7 +69,7 @@ impl NodeCache {
 
     /// Whether a leaf stands below the node to which a branch leads.
     #[cycle(holding)]
-    fn holds_below<V: Volume>(
+    pub fn holds_below<V: Volume>(
         &mut self,
         alloc: Global,
         volume: &mut V,

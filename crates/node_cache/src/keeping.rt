@@ -18,6 +18,18 @@ use ubifs_base::Memory;
 // So many nodes are kept.
 const MOST_NODES: usize = 256;
 
+/// A copy of a node.
+fn copied(alloc: Global, node: &IdxNode) -> Result<IdxNode, Memory>
+    ensures { IfOk result (λ made. index_of made ≡ index_of node.now) }
+{
+    let mut branches = Vec::new(alloc);
+    branches.extend_from_slice(node.branches.as_slice())?;
+    Ok(IdxNode {
+        level: node.level,
+        branches,
+    })
+}
+
 impl NodeCache {
     /// No node.
     pub fn new(alloc: Global) -> Result<NodeCache, Memory>
@@ -75,6 +87,29 @@ impl NodeCache {
             Some(node) => Ok(node),
             None => read_node(alloc, volume, branch),
         }
+    }
+
+    /// The node to which a branch leads, of those that are kept, or read and kept then: the one that was used last. What is answered is
+    /// a copy of it.
+    ///
+    /// `Memory` and `Volume` are the faults.
+    pub fn node<V: Volume>(
+        &mut self,
+        alloc: Global,
+        volume: &mut V,
+        branch: &Branch,
+    ) -> Result<IdxNode, AreaFault>
+        requires lnum { branch.now.lnum < (V.state volume.old).leb_cnt }
+        requires node { (said : AnIndexNode) × IsIndexNodeAt (V.state volume.old).holds branch.now said }
+        requires kept { AreKept (V.state volume.old).holds self.old }
+        ensures said { (said : AnIndexNode) → IsIndexNodeAt (V.state volume.old).holds branch.now said → IfOk result (λ node. index_of node ≡ said) }
+        ensures reads { IsRead (V.state volume.old) (V.state volume.new) result }
+        ensures kept { AreKept (V.state volume.new).holds self.new }
+    {
+        let node = self.take(alloc, volume, branch)?;
+        let copy = copied(alloc, &node);
+        self.keep(branch, node);
+        Ok(copy?)
     }
 
     /// The level of the node to which a branch leads.

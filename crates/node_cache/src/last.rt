@@ -12,7 +12,7 @@ ghost use Rattle.node_cache.specs.Loaded.{IsIndexOn, IsRead, IsRowOn};
 use crate::bisect::branches_passed;
 use crate::branches::{begin_within, leaf_to};
 use crate::cache::NodeCache;
-use crate::rank::{last_rank, rank};
+use crate::ranks::{last_rank, rank};
 use index_tree::Leaf;
 use media_sys::Branch;
 use std::alloc::Global;
@@ -20,7 +20,7 @@ use ubi_volume::{AreaFault, Volume};
 use ubifs_base::Key;
 
 /// Whether a key is that of a block of this inode.
-fn is_block_of(key: &Key, ino: u32) -> bool
+pub fn is_block_of(key: &Key, ino: u32) -> bool
     ensures { result ≡ is_block_of ino key.now }
 {
     match *key {
@@ -72,7 +72,7 @@ impl NodeCache {
 
     /// The last leaf of this rank or a lower one below the node to which a branch leads.
     #[cycle(ending)]
-    fn last_below<V: Volume>(
+    pub fn last_below<V: Volume>(
         &mut self,
         alloc: Global,
         volume: &mut V,

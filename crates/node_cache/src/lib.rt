@@ -20,10 +20,14 @@ mod last;
 mod laws;
 mod nth;
 mod range_scan;
-mod rank;
+mod ranks;
 mod reading;
 mod scan;
 
 pub use crate::cache::NodeCache;
+pub use crate::holding::same_leaf;
+pub use crate::last::is_block_of;
 pub use crate::laws::kept_nodes_stay;
+pub use crate::nth::Nth;
+pub use crate::ranks::{last_rank, rank};
 pub use crate::reading::read_node;

@@ -11,7 +11,7 @@ ghost use Rattle.node_cache.specs.Loaded.{IsIndexOn, IsRead, IsRowOn};
 use crate::bisect::lower_branches_passed;
 use crate::branches::{begin_below, begin_within, leaf_to};
 use crate::cache::NodeCache;
-use crate::rank::rank;
+use crate::ranks::rank;
 use index_tree::Leaf;
 use media_sys::Branch;
 use std::alloc::Global;
@@ -69,7 +69,7 @@ impl NodeCache {
 
     /// Pushes the leaves of these ranks below the node to which a branch leads, both ends included.
     #[cycle(ranging)]
-    fn push_range_below<V: Volume>(
+    pub fn push_range_below<V: Volume>(
         &mut self,
         alloc: Global,
         volume: &mut V,

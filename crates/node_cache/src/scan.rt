@@ -51,7 +51,7 @@ impl NodeCache {
 
     /// Pushes the leaves of a LEB below the node to which a branch leads.
     #[cycle(scanning)]
-    fn push_below<V: Volume>(
+    pub fn push_below<V: Volume>(
         &mut self,
         alloc: Global,
         volume: &mut V,

@@ -6,14 +6,14 @@ use Rattle.std.proofs.lemmas.List.Folds.{list_all-append}
 use Rattle.std.proofs.lemmas.Option.{slice_get-get_or}
 use Rattle.ubifs_base.specs.declared.key.Key.{Key}
 use Rattle.index_media.specs.KeyedRow.{KeyedRow, no_more, node_in}
-use Rattle.node_table.specs.Beyond.{is_loaded, are_loaded}
-use Rattle.node_table.specs.BeyondLaws.{loaded_row}
+use Rattle.table_nodes.specs.Beyond.{is_loaded, are_loaded}
+use Rattle.table_nodes.specs.BeyondLaws.{loaded_row}
 use Rattle.node_table.specs.Clean.{is_clean_below, are_clean_below}
-use Rattle.node_table.specs.NodeView.{node_before, row_of, view_of, stretch_at, views, tree_at, IsRootIn}
-use Rattle.node_table.specs.Sound.{IsSoundView, AreSoundViews}
-use Rattle.node_table.specs.declared.node.Root.{Root}
-use Rattle.node_table.specs.declared.node.TableNode.{TableNode}
-use Rattle.node_table.proofs.Viewing.{get_left, get_seam, views_push, views_length}
+use Rattle.table_nodes.specs.NodeView.{node_before, row_of, view_of, stretch_at, views, tree_at, IsRootIn}
+use Rattle.table_nodes.specs.Sound.{IsSoundView, AreSoundViews}
+use Rattle.table_nodes.specs.declared.node.Root.{Root}
+use Rattle.table_nodes.specs.declared.node.TableNode.{TableNode}
+use Rattle.table_nodes.specs.NodeViewLaws.{get_left, get_seam, views_push, views_length}
 
 pub pushed_sound : (fanout : ℕ) (nodes : List TableNode) (n : TableNode) → AreSoundViews fanout (views nodes) → IsSoundView fanout (view_of (views nodes) n)
     → AreSoundViews fanout (views (nodes ++ n ∷ []))

@@ -10,10 +10,10 @@ use Rattle.index_media.specs.KeyedRemoval.{without_leaf_by_keys}
 use Rattle.index_media.specs.KeyedRow.{KeyedRow, no_more, bare}
 use Rattle.node_table.specs.Changing.{IsChange, AreChanges, changed, changed_by, leaves_after, leaves_after_all}
 use Rattle.node_table.specs.Exchange.{tree_without}
-use Rattle.node_table.specs.NodeView.{NodeView, node_before, views, tree_at}
+use Rattle.table_nodes.specs.NodeView.{NodeView, node_before, views, tree_at}
 use Rattle.node_table.specs.declared.change.Change.{Change}
-use Rattle.node_table.specs.declared.node.Root.{Root}
-use Rattle.node_table.specs.declared.node.TableNode.{TableNode}
+use Rattle.table_nodes.specs.declared.node.Root.{Root}
+use Rattle.table_nodes.specs.declared.node.TableNode.{TableNode}
 
 -- one change more
 changed_last : (f : ℕ) (changes : List Change) (change : Change) (row : KeyedRow) → changed_by f (changes ++ change ∷ []) row ≡ changed f change (changed_by f changes row)

@@ -8,16 +8,17 @@ use Rattle.std.proofs.Math.Seq.{take-append_seam}
 use Rattle.ubifs_base.specs.declared.memory.Memory.{Memory}
 use Rattle.index_tree.specs.Shape.{count, node_count, shape_weight, full}
 use Rattle.index_media.specs.KeyedRow.{bare}
-use Rattle.node_table.specs.Beyond.{is_loaded}
-use Rattle.node_table.specs.BeyondLaws.{loaded_row}
+use Rattle.table_nodes.specs.Beyond.{is_loaded}
+use Rattle.table_nodes.specs.BeyondLaws.{loaded_row}
 use Rattle.node_table.specs.Counting.{counts_of, counts_of_all}
-use Rattle.node_table.specs.NodeView.{NodeView, row_of, view_of, views, children_in}
-use Rattle.node_table.specs.Staging.{IsAdded}
+use Rattle.table_nodes.specs.NodeView.{NodeView, row_of, view_of, views, children_in}
+use Rattle.table_nodes.specs.Links.{IsAdded}
 use Rattle.node_table.specs.declared.counts.TreeCounts.{TreeCounts}
-use Rattle.node_table.specs.declared.link.Link.{Link}
-use Rattle.node_table.specs.declared.node.TableNode.{TableNode}
-use Rattle.node_table.proofs.Viewing.{views_push, views_length}
-use Rattle.node_table.proofs.Staged.{links_counted, views_added}
+use Rattle.table_nodes.specs.declared.link.Link.{Link}
+use Rattle.table_nodes.specs.declared.node.TableNode.{TableNode}
+use Rattle.table_nodes.specs.NodeViewLaws.{views_push, views_length}
+use Rattle.table_nodes.specs.LinkLaws.{views_added}
+use Rattle.node_table.proofs.Staged.{links_counted}
 
 -- what is kept at a number
 pub counted_at : (f : ℕ) (seen : List NodeView) (i : ℕ) (own : TreeCounts) → slice_get (counts_of_all f seen) i ≡ Some own → own ≡ counts_of f (children_in (slice_get seen i))

@@ -6,19 +6,19 @@ use Rattle.std.proofs.lemmas.List.{map-append}
 use Rattle.std.proofs.lemmas.List.Elements.{filter-append}
 use Rattle.index_tree.specs.Shape.{fits}
 use Rattle.index_media.specs.KeyedRow.{KeyedRow, bare}
-use Rattle.node_table.specs.BeyondLaws.{dirty_row}
+use Rattle.table_nodes.specs.BeyondLaws.{dirty_row}
 use Rattle.node_table.specs.Dirty.{dirty_node, dirty_among, dirty_behind, dirty_lists, dirty_from, dirty_below}
-use Rattle.node_table.specs.NodeView.{NodeView, view_of, views_behind, views, IsRootIn}
+use Rattle.table_nodes.specs.NodeView.{NodeView, view_of, views_behind, views, IsRootIn}
 use Rattle.node_table.specs.Placing.{with_place, without_number}
-use Rattle.node_table.specs.Sound.{AreSoundViews}
-use Rattle.node_table.specs.Staging.{IsAdded, AreLinksIn}
-use Rattle.node_table.specs.declared.link.Link.{Link}
-use Rattle.node_table.specs.declared.link.Link.TheVariants.{ToLeaf, ToNode}
-use Rattle.node_table.specs.declared.node.NodePlace.{NodePlace}
-use Rattle.node_table.specs.declared.node.Root.{Root}
-use Rattle.node_table.specs.declared.node.TableNode.{TableNode}
-use Rattle.node_table.proofs.Staged.{links_there}
-use Rattle.node_table.proofs.Viewing.{views_more, sound_at, children_fit, get_seam}
+use Rattle.table_nodes.specs.Sound.{AreSoundViews}
+use Rattle.table_nodes.specs.Links.{IsAdded, AreLinksIn}
+use Rattle.table_nodes.specs.declared.link.Link.{Link}
+use Rattle.table_nodes.specs.declared.link.Link.TheVariants.{ToLeaf, ToNode}
+use Rattle.table_nodes.specs.declared.node.NodePlace.{NodePlace}
+use Rattle.table_nodes.specs.declared.node.Root.{Root}
+use Rattle.table_nodes.specs.declared.node.TableNode.{TableNode}
+use Rattle.table_nodes.specs.LinkLaws.{links_there}
+use Rattle.table_nodes.specs.NodeViewLaws.{views_more, sound_at, children_fit, get_seam}
 
 -- the lists of lists begin with what is known
 get_first : (xs ys : List (List ℕ)) (i : ℕ) → i < length xs → unwrap_or (slice_get (xs ++ ys) i) [] ≡ unwrap_or (slice_get xs i) []

@@ -12,10 +12,10 @@ use Rattle.index_tree.specs.declared.leaf.Leaf.{Leaf}
 use Rattle.index_media.specs.KeyedBounds.{AreAtLeast, above_start}
 use Rattle.index_media.specs.KeyedKeys.{key_before, AreKeysBounded}
 use Rattle.index_media.specs.KeyedRow.{KeyedRow, bare}
-use Rattle.node_table.specs.NodeView.{NodeView, link_key, node_before, linked_before, row_of, links_begin}
+use Rattle.table_nodes.specs.NodeView.{NodeView, link_key, node_before, linked_before, row_of, links_begin}
 use Rattle.node_table.specs.Walk.{inside}
-use Rattle.node_table.specs.declared.link.Link.{Link}
-use Rattle.node_table.specs.declared.link.Link.TheVariants.{ToLeaf, ToNode}
+use Rattle.table_nodes.specs.declared.link.Link.{Link}
+use Rattle.table_nodes.specs.declared.link.Link.TheVariants.{ToLeaf, ToNode}
 use Rattle.node_table.proofs.Rows.{row_size, linked_size, link_apart, link_bounds, begins_by}
 use Rattle.node_table.proofs.Staged.{no_most}
 

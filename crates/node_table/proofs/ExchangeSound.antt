@@ -11,7 +11,7 @@ use Rattle.index_media.specs.KeyedKeys.{AreKeysBounded}
 use Rattle.index_media.specs.KeyedRemoval.{removed_by_keys, replaced_by_keys}
 use Rattle.index_media.specs.KeyedRow.{KeyedRow, bare}
 use Rattle.node_table.specs.Exchange.{IsExchange, exchanged}
-use Rattle.node_table.specs.Sound.{IsSoundView}
+use Rattle.table_nodes.specs.Sound.{IsSoundView}
 
 -- what a change of rows keeps
 pub record Keeps (change : KeyedRow → KeyedRow) : Type 0 where

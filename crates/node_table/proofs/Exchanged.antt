@@ -13,17 +13,18 @@ use Rattle.index_media.specs.KeyedKeys.{key_before, AreKeysBounded}
 use Rattle.index_media.specs.KeyedRemoval.{removed_by_keys, replaced_by_keys}
 use Rattle.index_media.specs.KeyedRow.{KeyedRow, no_more, leaf_in, node_in, bare}
 use Rattle.node_table.specs.Exchange.{exchanged, exchanged_node, links_to}
-use Rattle.node_table.specs.NodeView.{NodeView, link_key, links_begin, node_before, linked_before, row_of, views, children_in}
-use Rattle.node_table.specs.Sound.{IsSoundView}
-use Rattle.node_table.specs.Staging.{row_before, AreLinksIn, IsAdded}
+use Rattle.table_nodes.specs.NodeView.{NodeView, link_key, links_begin, node_before, linked_before, row_of, views, children_in}
+use Rattle.table_nodes.specs.Sound.{IsSoundView}
+use Rattle.table_nodes.specs.Links.{row_before, AreLinksIn, IsAdded}
 use Rattle.node_table.specs.Walk.{inside}
-use Rattle.node_table.specs.declared.link.Link.{Link}
-use Rattle.node_table.specs.declared.link.Link.TheVariants.{ToLeaf, ToNode}
-use Rattle.node_table.specs.declared.node.TableNode.{TableNode}
+use Rattle.table_nodes.specs.declared.link.Link.{Link}
+use Rattle.table_nodes.specs.declared.link.Link.TheVariants.{ToLeaf, ToNode}
+use Rattle.table_nodes.specs.declared.node.TableNode.{TableNode}
 use Rattle.node_table.proofs.HoldsLaws.{none_lower, holds_first, holds_second, holds_inside, holds_outside, holds_nowhere}
 use Rattle.node_table.proofs.Inserted.{rest_there, row_kept}
 use Rattle.node_table.proofs.Rows.{link_bounds, begins_by}
-use Rattle.node_table.proofs.Staged.{links_kept, links_in_append, links_counted, before_none, before_append}
+use Rattle.table_nodes.specs.LinkLaws.{links_kept, links_in_append, before_none, before_append}
+use Rattle.node_table.proofs.Staged.{links_counted}
 
 -- nothing gives way where nothing stands
 pub exchanged_none : (gone : Leaf) (come : Option Leaf) → exchanged gone come no_more ≡ no_more

@@ -9,9 +9,9 @@ use Rattle.index_tree.specs.declared.leaf.Leaf.{Leaf}
 use Rattle.index_media.specs.KeyedBounds.{AreAtMost, AreAtLeast, above_start}
 use Rattle.index_media.specs.KeyedKeys.{AreKeysBounded}
 use Rattle.index_media.specs.KeyedRow.{bare}
-use Rattle.node_table.specs.NodeView.{NodeView, row_of, links_begin}
+use Rattle.table_nodes.specs.NodeView.{NodeView, row_of, links_begin}
 use Rattle.node_table.specs.Walk.{inside, IsNthOf}
-use Rattle.node_table.specs.declared.link.Link.{Link}
+use Rattle.table_nodes.specs.declared.link.Link.{Link}
 use Rattle.node_table.proofs.Rows.{Passed, link_apart, begins_by}
 
 none_below : (at k : ℕ) (xs : List Leaf) → at < k → AreAtMost (Some at) xs → of_rank k xs ≡ []

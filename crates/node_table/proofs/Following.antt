@@ -9,9 +9,9 @@ use Rattle.index_tree.specs.Shape.{contents}
 use Rattle.index_tree.specs.declared.leaf.Leaf.{Leaf}
 use Rattle.index_media.specs.KeyedBounds.{AreAtMost}
 use Rattle.index_media.specs.KeyedRow.{bare}
-use Rattle.node_table.specs.NodeView.{NodeView, row_of}
+use Rattle.table_nodes.specs.NodeView.{NodeView, row_of}
 use Rattle.node_table.specs.Walk.{inside}
-use Rattle.node_table.specs.declared.link.Link.{Link}
+use Rattle.table_nodes.specs.declared.link.Link.{Link}
 use Rattle.node_table.proofs.Rows.{Passed, link_apart}
 
 none_after : (at : ℕ) (xs : List Leaf) → AreAtMost (Some at) xs → first_after at xs ≡ None

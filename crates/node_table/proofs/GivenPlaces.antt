@@ -12,22 +12,22 @@ use Rattle.index_media.specs.KeyedKeys.{key_before, AreKeysBounded}
 use Rattle.index_media.specs.KeyedRow.{KeyedRow, no_more, leaf_in, node_in, bare}
 use Rattle.index_media.specs.PlacedRow.{Stretch}
 use Rattle.told_value.specs.declared.told.Told.{Told}
-use Rattle.node_table.specs.Beyond.{children_by, is_loaded, are_loaded, row_told, branch_at_place}
-use Rattle.node_table.specs.BeyondLaws.{loaded_row}
+use Rattle.table_nodes.specs.Beyond.{children_by, is_loaded, are_loaded, row_told, branch_at_place}
+use Rattle.table_nodes.specs.BeyondLaws.{loaded_row}
 use Rattle.node_table.specs.Clean.{is_clean_below, are_clean_below}
 use Rattle.node_table.specs.Counting.{counts_of, counts_of_all}
-use Rattle.node_table.specs.NodeView.{NodeView, stretch_at, node_before, linked_before, row_of, view_of, views_behind, views, children_in, tree_at, IsRootIn}
+use Rattle.table_nodes.specs.NodeView.{NodeView, stretch_at, node_before, linked_before, row_of, view_of, views_behind, views, children_in, tree_at, IsRootIn}
 use Rattle.node_table.specs.Placing.{with_place, IsPlacedRow}
-use Rattle.node_table.specs.Sound.{IsSoundView, AreSoundViews}
+use Rattle.table_nodes.specs.Sound.{IsSoundView, AreSoundViews}
 use Rattle.node_table.specs.Staging.{IsSoundRoot}
 use Rattle.node_table.specs.declared.counts.TreeCounts.{TreeCounts}
-use Rattle.node_table.specs.declared.link.Link.{Link}
-use Rattle.node_table.specs.declared.link.Link.TheVariants.{ToLeaf, ToNode}
-use Rattle.node_table.specs.declared.node.NodePlace.{NodePlace}
-use Rattle.node_table.specs.declared.node.Root.{Root}
-use Rattle.node_table.specs.declared.node.TableNode.{TableNode}
-use Rattle.node_table.specs.declared.seen.MediumSeen.{MediumSeen}
-use Rattle.node_table.proofs.Viewing.{get_seam, views_more}
+use Rattle.table_nodes.specs.declared.link.Link.{Link}
+use Rattle.table_nodes.specs.declared.link.Link.TheVariants.{ToLeaf, ToNode}
+use Rattle.table_nodes.specs.declared.node.NodePlace.{NodePlace}
+use Rattle.table_nodes.specs.declared.node.Root.{Root}
+use Rattle.table_nodes.specs.declared.node.TableNode.{TableNode}
+use Rattle.table_nodes.specs.declared.seen.MediumSeen.{MediumSeen}
+use Rattle.table_nodes.specs.NodeViewLaws.{get_seam, views_more}
 
 -- nothing but places changes of a row
 pub placed_same : (p : NodePlace) (b row : KeyedRow) → IsPlacedRow p b row row

@@ -10,15 +10,17 @@ use Rattle.index_media.specs.Insertion.{first_key, keyed_front, keyed_back, keye
 use Rattle.index_media.specs.InsertionSound.{AreKeys}
 use Rattle.index_media.specs.KeyedKeys.{AreKeysBounded}
 use Rattle.index_media.specs.KeyedRow.{KeyedRow, no_more, leaf_in, node_in, bare}
-use Rattle.node_table.specs.NodeView.{NodeView, node_before, row_of, views, children_in, tree_at, IsRootIn}
-use Rattle.node_table.specs.Sound.{IsSoundView}
-use Rattle.node_table.specs.Staging.{row_before, IsLinkIn, AreLinksIn, insertion_passes, IsAdded, IsGrownRow, IsSoundRoot}
-use Rattle.node_table.specs.declared.link.Link.{Link}
-use Rattle.node_table.specs.declared.link.Link.TheVariants.{ToLeaf, ToNode}
-use Rattle.node_table.specs.declared.node.Root.{Root}
-use Rattle.node_table.specs.declared.node.TableNode.{TableNode}
-use Rattle.node_table.proofs.Staged.{Halved, link_there, views_added, added_longer, links_kept, links_there, before_none, before_append, link_passed, leaf_before, node_inside, grown_row}
-use Rattle.node_table.proofs.Viewing.{views_length, get_left, children_fit}
+use Rattle.table_nodes.specs.NodeView.{NodeView, node_before, row_of, views, children_in, tree_at, IsRootIn}
+use Rattle.table_nodes.specs.Sound.{IsSoundView}
+use Rattle.table_nodes.specs.Links.{row_before, IsLinkIn, AreLinksIn, IsAdded}
+use Rattle.node_table.specs.Staging.{insertion_passes, IsGrownRow, IsSoundRoot}
+use Rattle.table_nodes.specs.declared.link.Link.{Link}
+use Rattle.table_nodes.specs.declared.link.Link.TheVariants.{ToLeaf, ToNode}
+use Rattle.table_nodes.specs.declared.node.Root.{Root}
+use Rattle.table_nodes.specs.declared.node.TableNode.{TableNode}
+use Rattle.table_nodes.specs.LinkLaws.{link_there, views_added, added_longer, links_kept, links_there, before_none, before_append}
+use Rattle.node_table.proofs.Staged.{Halved, link_passed, leaf_before, node_inside, grown_row}
+use Rattle.table_nodes.specs.NodeViewLaws.{views_length, get_left, children_fit}
 
 empty_of : (links : List Link) → length links ≡ 0 → links ≡ []
 empty_of [] h = refl

@@ -5,9 +5,9 @@ use Rattle.std.proofs.lemmas.Bool.{cases_Bool}
 use Rattle.std.proofs.lemmas.Bool.Decides.{nat_tests}
 use Rattle.index_media.specs.KeyedRow.{KeyedRow, no_more, leaf_in, node_in, bare}
 use Rattle.index_media.specs.PlacedRow.{Stretch}
-use Rattle.node_table.specs.NodeView.{stretch_at}
+use Rattle.table_nodes.specs.NodeView.{stretch_at}
 use Rattle.node_table.specs.Placing.{IsPlacedRow, KeepsPlaces, without_number}
-use Rattle.node_table.specs.declared.node.NodePlace.{NodePlace}
+use Rattle.table_nodes.specs.declared.node.NodePlace.{NodePlace}
 
 pub kept_shape : (old new : KeyedRow) → KeepsPlaces old new → bare new ≡ bare old
 kept_shape no_more new h = ap bare h

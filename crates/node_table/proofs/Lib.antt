@@ -1,5 +1,4 @@
 pub mod Rows
-pub mod Viewing
 pub mod Following
 pub mod Finding
 pub mod Adding
@@ -21,4 +20,3 @@ pub mod DirtyLists
 pub mod Cleaning
 pub mod PlacedTable
 pub mod KeptPlaces
-pub mod Unloaded

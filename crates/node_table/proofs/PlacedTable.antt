@@ -1,18 +1,18 @@
 -- A table in which a node that was ready has got a place.
 use Rattle.std.proofs.Common.{◌≡◌, ℕ, zero, suc, ◌≤◌, ◌<◌, ◌∙◌, true, List, [], ◌∷◌, length, refl, ap, sym, arith}
 use Rattle.std.specs.Prelude.{Option, Some, slice_get, slice_set}
-use Rattle.node_table.specs.Beyond.{are_loaded}
-use Rattle.node_table.specs.BeyondLaws.{loaded_at}
+use Rattle.table_nodes.specs.Beyond.{are_loaded}
+use Rattle.table_nodes.specs.BeyondLaws.{loaded_at}
 use Rattle.node_table.specs.Clean.{are_clean_below, IsReadyNode}
 use Rattle.node_table.specs.Counting.{counts_of_all}
 use Rattle.node_table.specs.Dirty.{dirty_below}
-use Rattle.node_table.specs.NodeView.{views, children_in, tree_at}
+use Rattle.table_nodes.specs.NodeView.{views, children_in, tree_at}
 use Rattle.node_table.specs.Placing.{with_place, IsPlacedRow, without_number}
-use Rattle.node_table.specs.Sound.{AreSoundViews}
+use Rattle.table_nodes.specs.Sound.{AreSoundViews}
 use Rattle.node_table.specs.Staging.{IsSoundRoot}
-use Rattle.node_table.specs.declared.node.NodePlace.{NodePlace}
-use Rattle.node_table.specs.declared.node.Root.{Root}
-use Rattle.node_table.specs.declared.node.TableNode.{TableNode}
+use Rattle.table_nodes.specs.declared.node.NodePlace.{NodePlace}
+use Rattle.table_nodes.specs.declared.node.Root.{Root}
+use Rattle.table_nodes.specs.declared.node.TableNode.{TableNode}
 use Rattle.node_table.proofs.Cleaning.{ready_node}
 use Rattle.node_table.proofs.DirtyLists.{dirty_given}
 use Rattle.node_table.proofs.GivenPlaces.{placed_views, placed_tree, views_sound, views_settled, views_counted, root_placed, with_length, with_loaded}

@@ -16,17 +16,18 @@ use Rattle.index_media.specs.KeyedRange.{place_without_range, pruned_by_keys}
 use Rattle.index_media.specs.KeyedRemoval.{keyed_tidied}
 use Rattle.index_media.specs.KeyedRow.{KeyedRow, no_more, node_in, bare}
 use Rattle.index_media.specs.PlacedRow.{Stretch}
-use Rattle.node_table.specs.NodeView.{NodeView, link_key, links_begin, node_before, linked_before, row_of, views, children_in}
+use Rattle.table_nodes.specs.NodeView.{NodeView, link_key, links_begin, node_before, linked_before, row_of, views, children_in}
 use Rattle.node_table.specs.Pruning.{place_in, pruned_node, pruned_link}
-use Rattle.node_table.specs.Staging.{row_before, AreLinksIn, IsAdded}
+use Rattle.table_nodes.specs.Links.{row_before, AreLinksIn, IsAdded}
 use Rattle.node_table.specs.Walk.{inside}
-use Rattle.node_table.specs.declared.link.Link.{Link}
-use Rattle.node_table.specs.declared.link.Link.TheVariants.{ToLeaf, ToNode}
-use Rattle.node_table.specs.declared.node.TableNode.{TableNode}
+use Rattle.table_nodes.specs.declared.link.Link.{Link}
+use Rattle.table_nodes.specs.declared.link.Link.TheVariants.{ToLeaf, ToNode}
+use Rattle.table_nodes.specs.declared.node.TableNode.{TableNode}
 use Rattle.node_table.proofs.Exchanged.{rest_bounded}
 use Rattle.node_table.proofs.Inserted.{rest_there, row_kept}
 use Rattle.node_table.proofs.Rows.{Passed, link_apart, link_bounds, begins_by}
-use Rattle.node_table.proofs.Staged.{links_kept, links_in_append, links_counted, before_none, before_append}
+use Rattle.table_nodes.specs.LinkLaws.{links_kept, links_in_append, before_none, before_append}
+use Rattle.node_table.proofs.Staged.{links_counted}
 
 -- rows of which no leaf is of the range stay
 abbrev pub AreSame : Type 0

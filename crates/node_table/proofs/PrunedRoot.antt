@@ -8,12 +8,13 @@ use Rattle.index_tree.specs.Shape.{contents, count, lone}
 use Rattle.index_media.specs.KeyedRange.{pruned_by_keys, without_range_by_keys}
 use Rattle.index_media.specs.KeyedRemoval.{keyed_collapsed}
 use Rattle.index_media.specs.KeyedRow.{KeyedRow, no_more, bare}
-use Rattle.node_table.specs.NodeView.{NodeView, row_of, views, children_in, tree_at, leaves_at}
+use Rattle.table_nodes.specs.NodeView.{NodeView, row_of, views, children_in, tree_at, leaves_at}
 use Rattle.node_table.specs.Pruning.{pruned_node}
-use Rattle.node_table.specs.Staging.{row_before, only_root}
-use Rattle.node_table.specs.declared.link.Link.{Link}
-use Rattle.node_table.specs.declared.node.Root.{Root}
-use Rattle.node_table.specs.declared.node.TableNode.{TableNode}
+use Rattle.table_nodes.specs.Links.{row_before}
+use Rattle.node_table.specs.Staging.{only_root}
+use Rattle.table_nodes.specs.declared.link.Link.{Link}
+use Rattle.table_nodes.specs.declared.node.Root.{Root}
+use Rattle.table_nodes.specs.declared.node.TableNode.{TableNode}
 use Rattle.node_table.proofs.Inserted.{made_row}
 use Rattle.node_table.proofs.Pruned.{node_pruned}
 use Rattle.node_table.proofs.Rooted.{only_row, not_lone}

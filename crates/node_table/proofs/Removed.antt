@@ -11,17 +11,18 @@ use Rattle.index_media.specs.KeyedKeys.{AreKeysBounded}
 use Rattle.index_media.specs.KeyedRemoval.{removed_by_keys, keyed_collapsed, without_leaf_by_keys, replaced_by_keys}
 use Rattle.index_media.specs.KeyedRow.{KeyedRow, no_more, bare}
 use Rattle.node_table.specs.Exchange.{exchanged, exchanged_node, tree_without}
-use Rattle.node_table.specs.NodeView.{NodeView, node_before, row_of, views, children_in, tree_at, IsRootIn}
-use Rattle.node_table.specs.Sound.{AreSoundViews}
-use Rattle.node_table.specs.Staging.{row_before, only_root, AreLinksIn, IsSoundRoot}
-use Rattle.node_table.specs.declared.link.Link.{Link}
-use Rattle.node_table.specs.declared.node.Root.{Root}
-use Rattle.node_table.specs.declared.node.TableNode.{TableNode}
+use Rattle.table_nodes.specs.NodeView.{NodeView, node_before, row_of, views, children_in, tree_at, IsRootIn}
+use Rattle.table_nodes.specs.Sound.{AreSoundViews}
+use Rattle.table_nodes.specs.Links.{row_before, AreLinksIn}
+use Rattle.node_table.specs.Staging.{only_root, IsSoundRoot}
+use Rattle.table_nodes.specs.declared.link.Link.{Link}
+use Rattle.table_nodes.specs.declared.node.Root.{Root}
+use Rattle.table_nodes.specs.declared.node.TableNode.{TableNode}
 use Rattle.node_table.proofs.Exchanged.{node_there, exchanged_same}
 use Rattle.node_table.proofs.Inserted.{made_row}
 use Rattle.node_table.proofs.Rooted.{only_row, not_lone, link_in}
 use Rattle.node_table.proofs.Rows.{row_size, node_size, node_apart}
-use Rattle.node_table.proofs.Viewing.{sound_at, children_fit}
+use Rattle.table_nodes.specs.NodeViewLaws.{sound_at, children_fit}
 
 -- a root with one link to a node gives way to it
 node_stays_up : (key : Key) (o : Option NodeView) → lone (bare (children_in o)) ≡ false → node_before key o no_more ≡ keyed_collapsed (node_before key o no_more)

@@ -13,15 +13,17 @@ use Rattle.index_media.specs.InsertionKeys.{inserted_bounded, with_leaf_bounded}
 use Rattle.index_media.specs.InsertionSound.{AreKeys, fits_node, node_level, inserted_grown, inserted_levelled, inserted_keys, first_is_key}
 use Rattle.index_media.specs.KeyedKeys.{AreKeysBounded}
 use Rattle.index_media.specs.KeyedRow.{KeyedRow, no_more, node_in, bare}
-use Rattle.node_table.specs.NodeView.{NodeView, node_before, row_of, view_of, views, tree_at}
-use Rattle.node_table.specs.Sound.{IsSoundView, AreSoundViews}
-use Rattle.node_table.specs.Staging.{root_by, only_root, IsLinkIn, IsSoundRoot, IsTopRow}
-use Rattle.node_table.specs.declared.link.Link.{Link}
-use Rattle.node_table.specs.declared.link.Link.TheVariants.{ToLeaf, ToNode}
-use Rattle.node_table.specs.declared.node.Root.{Root}
-use Rattle.node_table.specs.declared.node.TableNode.{TableNode}
-use Rattle.node_table.proofs.Staged.{links_there, link_counted}
-use Rattle.node_table.proofs.Viewing.{opened, sound_at, views_length}
+use Rattle.table_nodes.specs.NodeView.{NodeView, node_before, row_of, view_of, views, tree_at}
+use Rattle.table_nodes.specs.Sound.{IsSoundView, AreSoundViews}
+use Rattle.table_nodes.specs.Links.{IsLinkIn}
+use Rattle.node_table.specs.Staging.{root_by, only_root, IsSoundRoot, IsTopRow}
+use Rattle.table_nodes.specs.declared.link.Link.{Link}
+use Rattle.table_nodes.specs.declared.link.Link.TheVariants.{ToLeaf, ToNode}
+use Rattle.table_nodes.specs.declared.node.Root.{Root}
+use Rattle.table_nodes.specs.declared.node.TableNode.{TableNode}
+use Rattle.table_nodes.specs.LinkLaws.{links_there}
+use Rattle.node_table.proofs.Staged.{link_counted}
+use Rattle.table_nodes.specs.NodeViewLaws.{opened, sound_at, views_length}
 
 -- the index below a root, by its node
 pub top_row : (f : ℕ) (nodes : List TableNode) (root : Root) (n : TableNode) → AreSoundViews f (views nodes) → IsSoundRoot nodes (Some root) → slice_get nodes root.number ≡ Some n

@@ -11,10 +11,10 @@ use Rattle.index_media.specs.KeyedBounds.{AreAtMost, most_append, most_weaken, k
 use Rattle.index_media.specs.KeyedKeys.{key_before, AreKeysBounded}
 use Rattle.index_media.specs.KeyedRow.{KeyedRow, no_more, leaf_in, node_in, bare}
 use Rattle.index_media.specs.Keys.{IsAtMost}
-use Rattle.node_table.specs.NodeView.{NodeView, link_key, links_begin, node_before, linked_before, row_of, children_in}
+use Rattle.table_nodes.specs.NodeView.{NodeView, link_key, links_begin, node_before, linked_before, row_of, children_in}
 use Rattle.node_table.specs.Walk.{inside}
-use Rattle.node_table.specs.declared.link.Link.{Link}
-use Rattle.node_table.specs.declared.link.Link.TheVariants.{ToLeaf, ToNode}
+use Rattle.table_nodes.specs.declared.link.Link.{Link}
+use Rattle.table_nodes.specs.declared.link.Link.TheVariants.{ToLeaf, ToNode}
 
 -- how much there is to walk
 abbrev pub row_size : KeyedRow → ℕ

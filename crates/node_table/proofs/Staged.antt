@@ -1,9 +1,8 @@
--- What is staged leaves what stands, and makes what an insertion makes.
-use Rattle.std.proofs.Common.{◌≡◌, ℕ, ◌+◌, ◌-◌, ◌<◌, ◌≤◌, true, false, List, [], ◌∷◌, ◌++◌, length, take, drop, zero, suc, refl, ap, sym, ◌∙◌, subst, arith, append-nil, append_assoc, length-append}
+-- What an insertion makes of links, and of the row of a node.
+use Rattle.std.proofs.Common.{◌≡◌, ℕ, ◌+◌, ◌-◌, ◌<◌, ◌≤◌, true, false, List, [], ◌∷◌, length, take, drop, zero, suc, refl, ap, sym, ◌∙◌, subst, arith}
 use Rattle.std.specs.Prelude.{Option, None, Some, nat_le, ◌==◌, slice_get}
 use Rattle.std.proofs.lemmas.Bool.{lt-leb, le-leb}
 use Rattle.std.proofs.lemmas.Bool.Decides.{nat_tests}
-use Rattle.std.proofs.lemmas.Option.{slice_get-get_or, slice_get_within}
 use Rattle.ubifs_base.specs.Key.{IsKey}
 use Rattle.ubifs_base.specs.declared.key.Key.{Key}
 use Rattle.index_tree.specs.Levels.{levelled}
@@ -17,89 +16,12 @@ use Rattle.index_media.specs.InsertionSound.{fit_node, fits_node, front_count, b
 use Rattle.index_media.specs.KeyedBounds.{lower_least}
 use Rattle.index_media.specs.KeyedKeys.{AreKeysBounded}
 use Rattle.index_media.specs.KeyedRow.{KeyedRow, no_more, leaf_in, node_in, bare}
-use Rattle.node_table.specs.NodeView.{NodeView, link_key, stretch_at, node_before, linked_before, row_of, view_of, views, children_in}
-use Rattle.node_table.specs.Sound.{IsSoundView}
-use Rattle.node_table.specs.Staging.{row_before, IsLinkIn, AreLinksIn, insertion_passes, IsAdded, IsGrownRow}
-use Rattle.node_table.specs.declared.link.Link.{Link}
-use Rattle.node_table.specs.declared.link.Link.TheVariants.{ToLeaf, ToNode}
-use Rattle.node_table.specs.declared.node.TableNode.{TableNode}
+use Rattle.table_nodes.specs.NodeView.{NodeView, link_key, node_before, linked_before, row_of, children_in}
+use Rattle.table_nodes.specs.Sound.{IsSoundView}
+use Rattle.node_table.specs.Staging.{insertion_passes, IsGrownRow}
+use Rattle.table_nodes.specs.declared.link.Link.{Link}
+use Rattle.table_nodes.specs.declared.link.Link.TheVariants.{ToLeaf, ToNode}
 use Rattle.node_table.proofs.Rows.{begins_by}
-use Rattle.node_table.proofs.Viewing.{get_left, get_seam, views_more, views_append, views_push, views_length}
-
--- what is seen of more nodes begins with what was seen
-pub views_added : (old new : List TableNode) → IsAdded old new → (more : List NodeView) × (views new ≡ views old ++ more)
-views_added old new a =
-    let p = views_more (views old) a.more in
-    (p.0, ap views a.is ∙ views_append [] old a.more ∙ p.1)
-
-pub added_none : (nodes new : List TableNode) → new ≡ nodes → IsAdded nodes new
-added_none nodes new e = record { more = []; is = e ∙ sym (append-nil nodes) }
-
-pub added_both : (a b c : List TableNode) → IsAdded a b → IsAdded b c → IsAdded a c
-added_both a b c x y = record { more = x.more ++ y.more; is = y.is ∙ ap (λ (v : List TableNode). v ++ y.more) x.is ∙ append_assoc a x.more y.more }
-
-pub added_longer : (old new : List TableNode) → IsAdded old new → length old ≤ length new
-added_longer old new a = let both = ap length a.is in let sum = length-append old a.more in omega (arith, both, sum)
-
--- links that lead to the nodes that were there lead to the same
-link_kept : (seen more : List NodeView) (link : Link) (rest : KeyedRow) → IsLinkIn (length seen) link → linked_before (seen ++ more) link rest ≡ linked_before seen link rest
-link_kept seen more (ToLeaf x) rest h = refl
-link_kept seen more (ToNode key number) rest h =
-    let v : NodeView = record { level = 0; place = None; children = no_more } in
-    let there = slice_get-get_or seen number v h in
-    ap (λ o. node_before key o rest) (get_left seen more number _ there ∙ sym there)
-
-kept_seen : (seen more : List NodeView) (links : List Link) (rest : KeyedRow) → AreLinksIn (length seen) links → row_before (seen ++ more) links rest ≡ row_before seen links rest
-kept_seen seen more [] rest h = refl
-kept_seen seen more (link ∷ links) rest h =
-    ap (linked_before (seen ++ more) link) (kept_seen seen more links rest h.1) ∙ link_kept seen more link (row_before seen links rest) h.0
-
-pub links_kept : (old new : List TableNode) (links : List Link) (rest : KeyedRow) → IsAdded old new → AreLinksIn (length old) links
-    → row_before (views new) links rest ≡ row_before (views old) links rest
-links_kept old new links rest a h =
-    let p = views_added old new a in
-    let long = views_length old in
-    ap (λ v. row_before v links rest) p.1 ∙ kept_seen (views old) p.0 links rest (subst (λ n. AreLinksIn n links) (sym long) h)
-
-link_later : (m n : ℕ) (link : Link) → m ≤ n → IsLinkIn m link → IsLinkIn n link
-link_later m n (ToLeaf x) l h = tt
-link_later m n (ToNode key number) l h = omega (arith, l, h)
-
-links_later : (m n : ℕ) (links : List Link) → m ≤ n → AreLinksIn m links → AreLinksIn n links
-links_later m n [] l h = tt
-links_later m n (link ∷ links) l h = (link_later m n link l h.0, links_later m n links l h.1)
-
-pub links_in_added : (old new : List TableNode) (links : List Link) → IsAdded old new → AreLinksIn (length old) links → AreLinksIn (length new) links
-links_in_added old new links a h = links_later (length old) (length new) links (added_longer old new a) h
-
-pub links_in_append : (n : ℕ) (xs ys : List Link) → AreLinksIn n xs → AreLinksIn n ys → AreLinksIn n (xs ++ ys)
-links_in_append n [] ys a b = b
-links_in_append n (x ∷ xs) ys a b = (a.0, links_in_append n xs ys a.1 b)
-
--- the links of a row whose nodes have children are those of nodes that are there
-node_there_in : (f : ℕ) (seen : List NodeView) (key : Key) (number : ℕ) (o : Option NodeView) (rest : KeyedRow) → slice_get seen number ≡ o → fits f (bare (node_before key o rest)) ≡ true
-    → (number < length seen) × (fits f (bare rest) ≡ true)
-node_there_in f seen key number None rest e h = absurd cc
-node_there_in f seen key number (Some v) rest e h = (slice_get_within seen number v e, (fit_node f (bare v.children) (bare rest) h).others)
-
-pub link_there : (f : ℕ) (seen : List NodeView) (link : Link) (rest : KeyedRow) → fits f (bare (linked_before seen link rest)) ≡ true → IsLinkIn (length seen) link × (fits f (bare rest) ≡ true)
-link_there f seen (ToLeaf x) rest h = (tt, h)
-link_there f seen (ToNode key number) rest h = node_there_in f seen key number (slice_get seen number) rest refl h
-
-pub links_there : (f : ℕ) (seen : List NodeView) (links : List Link) → fits f (bare (row_of seen links)) ≡ true → AreLinksIn (length seen) links
-links_there f seen [] h = tt
-links_there f seen (link ∷ links) h =
-    let p = link_there f seen link (row_of seen links) h in
-    (p.0, links_there f seen links p.1)
-
--- links before nothing, and before others
-pub before_none : (seen : List NodeView) (links : List Link) → row_before seen links no_more ≡ row_of seen links
-before_none seen [] = refl
-before_none seen (link ∷ links) = ap (linked_before seen link) (before_none seen links)
-
-pub before_append : (seen : List NodeView) (xs ys : List Link) (rest : KeyedRow) → row_before seen (xs ++ ys) rest ≡ row_before seen xs (row_before seen ys rest)
-before_append seen [] ys rest = refl
-before_append seen (x ∷ xs) ys rest = ap (linked_before seen x) (before_append seen xs ys rest)
 
 -- where an insertion passes a link, and where it doesn't
 node_passed : (f : ℕ) (new : Leaf) (key : Key) (o : Option NodeView) (rest : KeyedRow) → starts_by (leaf_rank new) rest ≡ true
@@ -254,23 +176,3 @@ node_first key own (Some v) rest = refl
 pub link_first : (seen : List NodeView) (key : Key) (link : Link) (links : List Link) → link_key link ≡ first_key key (row_of seen (link ∷ links))
 link_first seen key (ToLeaf x) links = refl
 link_first seen key (ToNode own number) links = node_first key own (slice_get seen number) (row_of seen links)
-
--- a node that is added, and a link to it
-pub node_pushed : (old new : List TableNode) (n : TableNode) (number : ℕ) (key : Key) (made : List Link) (rest : KeyedRow) → new ≡ old ++ n ∷ [] → number ≡ length old → AreLinksIn (length old) made
-    → row_before (views new) (made ++ ToNode key number ∷ []) rest ≡ row_before (views old) made (node_in key (stretch_at n.place) (view_of (views old) n).children rest)
-node_pushed old new n number key made rest e k h =
-    let a : IsAdded old new = record { more = n ∷ []; is = e } in
-    let v = view_of (views old) n in
-    let there : slice_get (views new) number ≡ Some v =
-    ap (λ w. slice_get (views w) number) e ∙ ap (λ w. slice_get w number) (views_push old n) ∙ ap (λ j. slice_get (views old ++ v ∷ []) j) (k ∙ sym (views_length old)) ∙ get_seam (views old) v [] in
-    before_append (views new) made (ToNode key number ∷ []) rest ∙ links_kept old new made (linked_before (views new) (ToNode key number) rest) a h
-    ∙ ap (row_before (views old) made) (ap (λ o. node_before key o rest) there)
-
-pub links_in_pushed : (old new : List TableNode) (n : TableNode) (number : ℕ) (key : Key) (made : List Link) → new ≡ old ++ n ∷ [] → number ≡ length old → AreLinksIn (length old) made
-    → AreLinksIn (length new) (made ++ ToNode key number ∷ [])
-links_in_pushed old new n number key made e k h =
-    let a : IsAdded old new = record { more = n ∷ []; is = e } in
-    let both = ap length e in
-    let sum = length-append old (n ∷ []) in
-    let own : number < length new = omega (arith, both, sum, k) in
-    links_in_append (length new) made (ToNode key number ∷ []) (links_in_added old new made a h) (own, tt)

@@ -2,9 +2,9 @@
 use Rattle.std.specs.Prelude.{◌≡◌, ◌<◌, ◌&&◌, ◌||◌, ℕ, Bool, true, false, List, Option, None, Some, is_none, is_some, length, slice_get}
 use Rattle.std.specs.List.{list_all}
 use Rattle.index_media.specs.Clean.{is_clean_row}
-use Rattle.node_table.specs.NodeView.{NodeView, views, children_in}
+use Rattle.table_nodes.specs.NodeView.{NodeView, views, children_in}
 use Rattle.node_table.specs.Pruning.{place_in}
-use Rattle.node_table.specs.declared.node.TableNode.{TableNode}
+use Rattle.table_nodes.specs.declared.node.TableNode.{TableNode}
 
 -- whether a node is dirty, or all below it is clean too
 abbrev pub is_clean_below : NodeView → Bool

@@ -3,7 +3,7 @@ use Rattle.std.specs.Prelude.{◌≡◌, ℕ, List, map}
 use Rattle.std.proofs.Props.{props}
 use Rattle.index_tree.specs.Shape.{node, done, node_count, shape_weight}
 use Rattle.index_media.specs.KeyedRow.{KeyedRow, bare}
-use Rattle.node_table.specs.NodeView.{NodeView}
+use Rattle.table_nodes.specs.NodeView.{NodeView}
 use Rattle.node_table.specs.declared.counts.TreeCounts.{TreeCounts}
 
 -- the numbers of the tree of a node with these children: its nodes, and its weight

@@ -8,9 +8,9 @@ use Rattle.index_tree.specs.Shape.{contents}
 use Rattle.index_tree.specs.declared.leaf.Leaf.{Leaf}
 use Rattle.index_media.specs.KeyedRemoval.{removed_by_keys, without_leaf_by_keys, replaced_by_keys}
 use Rattle.index_media.specs.KeyedRow.{KeyedRow, bare}
-use Rattle.node_table.specs.NodeView.{NodeView, children_in, node_before}
-use Rattle.node_table.specs.declared.link.Link.{Link}
-use Rattle.node_table.specs.declared.link.Link.TheVariants.{ToLeaf}
+use Rattle.table_nodes.specs.NodeView.{NodeView, children_in, node_before}
+use Rattle.table_nodes.specs.declared.link.Link.{Link}
+use Rattle.table_nodes.specs.declared.link.Link.TheVariants.{ToLeaf}
 
 -- a leaf that comes has the key of the one that goes
 abbrev pub IsExchange : Leaf → Option Leaf → Type 0

@@ -1,7 +1,3 @@
-pub mod Beyond
-pub mod NodeView
-pub mod BeyondLaws
-pub mod Sound
 pub mod Walk
 pub mod Staging
 pub mod Exchange
@@ -11,4 +7,3 @@ pub mod Pruning
 pub mod Clean
 pub mod Dirty
 pub mod Placing
-pub mod StubRows

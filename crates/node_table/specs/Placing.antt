@@ -2,9 +2,9 @@
 use Rattle.std.specs.Prelude.{◌≡◌, ◌⊎◌, ◌==◌, not, ℕ, zero, suc, List, [], ◌∷◌, Option, None, Some, filter}
 use Rattle.index_media.specs.KeyedRow.{KeyedRow, no_more, leaf_in, node_in}
 use Rattle.index_media.specs.PlacedRow.{Stretch}
-use Rattle.node_table.specs.NodeView.{stretch_at}
-use Rattle.node_table.specs.declared.node.NodePlace.{NodePlace}
-use Rattle.node_table.specs.declared.node.TableNode.{TableNode}
+use Rattle.table_nodes.specs.NodeView.{stretch_at}
+use Rattle.table_nodes.specs.declared.node.NodePlace.{NodePlace}
+use Rattle.table_nodes.specs.declared.node.TableNode.{TableNode}
 
 -- a table in which the node of this number stands at a place, and all else is as it was
 abbrev pub with_place : ℕ → NodePlace → List TableNode → List TableNode

@@ -6,9 +6,9 @@ use Rattle.index_media.specs.KeyedRange.{place_without_range, pruned_by_keys}
 use Rattle.index_media.specs.KeyedRemoval.{keyed_tidied}
 use Rattle.index_media.specs.KeyedRow.{KeyedRow, leaf_in, node_in}
 use Rattle.index_media.specs.PlacedRow.{Stretch}
-use Rattle.node_table.specs.NodeView.{NodeView, children_in}
-use Rattle.node_table.specs.declared.link.Link.{Link}
-use Rattle.node_table.specs.declared.link.Link.TheVariants.{ToLeaf, ToNode}
+use Rattle.table_nodes.specs.NodeView.{NodeView, children_in}
+use Rattle.table_nodes.specs.declared.link.Link.{Link}
+use Rattle.table_nodes.specs.declared.link.Link.TheVariants.{ToLeaf, ToNode}
 
 -- the place of a node, if it is there and clean
 abbrev pub place_in : Option NodeView → Option Stretch

@@ -1,5 +1,5 @@
--- What a change stages: nodes behind those of a table, and links to them in front of a row.
-use Rattle.std.specs.Prelude.{◌≡◌, Bool, nat_le, ℕ, ◌+◌, ◌<◌, ◌≤◌, true, List, [], ◌∷◌, ◌++◌, Option, None, Some, ⊤}
+-- What a change stages: the rows of nodes that it makes, and the roots of them.
+use Rattle.std.specs.Prelude.{◌≡◌, Bool, nat_le, ℕ, ◌+◌, ◌<◌, ◌≤◌, true, List, [], ◌∷◌, Option, None, Some}
 use Rattle.index_tree.specs.Levels.{levelled}
 use Rattle.index_tree.specs.Order.{leaf_rank}
 use Rattle.index_tree.specs.declared.leaf.Leaf.{Leaf}
@@ -7,35 +7,16 @@ use Rattle.index_tree.specs.Shape.{count, fits}
 use Rattle.index_media.specs.InsertionSound.{AreKeys}
 use Rattle.index_media.specs.KeyedKeys.{AreKeysBounded}
 use Rattle.index_media.specs.KeyedRow.{KeyedRow, bare}
-use Rattle.node_table.specs.NodeView.{NodeView, linked_before, links_begin, tree_at, IsRootIn}
-use Rattle.node_table.specs.declared.link.Link.{Link}
-use Rattle.node_table.specs.declared.link.Link.TheVariants.{ToLeaf, ToNode}
-use Rattle.node_table.specs.declared.node.Root.{Root}
-use Rattle.node_table.specs.declared.node.TableNode.{TableNode}
-
--- what links lead to, before a row
-abbrev pub row_before : List NodeView → List Link → KeyedRow → KeyedRow
-row_before seen [] rest = rest
-row_before seen (link ∷ links) rest = linked_before seen link (row_before seen links rest)
-
--- each link leads to a leaf, or to one of the first n nodes
-abbrev pub IsLinkIn : ℕ → Link → Type 0
-IsLinkIn n (ToLeaf x) = ⊤
-IsLinkIn n (ToNode key number) = number < n
-
-abbrev pub AreLinksIn : ℕ → List Link → Type 0
-AreLinksIn n [] = ⊤
-AreLinksIn n (link ∷ links) = IsLinkIn n link × AreLinksIn n links
+use Rattle.table_nodes.specs.NodeView.{links_begin, tree_at, IsRootIn}
+use Rattle.table_nodes.specs.declared.link.Link.{Link}
+use Rattle.table_nodes.specs.declared.link.Link.TheVariants.{ToLeaf, ToNode}
+use Rattle.table_nodes.specs.declared.node.Root.{Root}
+use Rattle.table_nodes.specs.declared.node.TableNode.{TableNode}
 
 -- whether an insertion goes on behind a link: a leaf of its key or a lower one, or a node before a link of such a key
 abbrev pub insertion_passes : Leaf → Link → List Link → Bool
 insertion_passes new (ToLeaf x) links = nat_le (leaf_rank x) (leaf_rank new)
 insertion_passes new (ToNode key number) links = links_begin (leaf_rank new) links
-
--- nodes were added behind those that were there
-pub record IsAdded (old new : List TableNode) : Type 0 where
-  pub more : List TableNode
-  pub is : new ≡ old ++ more
 
 -- the row of a node's children after one more may have come
 pub record IsGrownRow (fanout level : ℕ) (row : KeyedRow) : Type 0 where

@@ -6,14 +6,13 @@ ghost use Rattle.index_tree.specs.Order.{first_after};
 ghost use Rattle.index_tree.specs.Shape.{contents};
 ghost use Rattle.index_media.specs.KeyedKeys.{AreKeysBounded};
 ghost use Rattle.index_media.specs.KeyedRow.{bare};
-ghost use Rattle.node_table.specs.NodeView.{views, row_of, children_in};
+ghost use Rattle.table_nodes.specs.NodeView.{views, row_of, children_in};
 ghost use Rattle.node_table.specs.Walk.{inside};
 
-use crate::bisect::{begin_within, links_passed};
-use crate::link::Link;
-use crate::rank::rank;
 use crate::table::NodeTable;
 use index_tree::Leaf;
+use node_cache::rank;
+use table_nodes::{Link, begin_within, links_passed};
 
 impl NodeTable {
     /// The first leaf of a greater rank below a node.

@@ -4,12 +4,11 @@ ghost use Rattle.std.specs.Prelude.{◌≡◌, ◌+◌, ◌++◌, ◌∷◌, [],
 ghost use Rattle.index_tree.specs.Shape.{node_count, shape_weight};
 ghost use Rattle.index_media.specs.KeyedRow.{bare};
 ghost use Rattle.node_table.specs.Counting.{counts_of};
-ghost use Rattle.node_table.specs.NodeView.{views, row_of, children_in, tree_at};
+ghost use Rattle.table_nodes.specs.NodeView.{views, row_of, children_in, tree_at};
 
 use crate::counts::TreeCounts;
-use crate::link::Link;
-use crate::node::{Root, TableNode};
 use crate::table::NodeTable;
+use table_nodes::{Link, Root, TableNode};
 use ubifs_base::Memory;
 
 /// The numbers of two trees together; none where they pass 64 bits.

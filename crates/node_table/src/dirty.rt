@@ -4,12 +4,11 @@ ghost use Rattle.std.specs.Prelude.{◌≡◌, ◌<◌, ◌∷◌, [], true, IfS
 ghost use Rattle.index_media.specs.Clean.{is_clean_row};
 ghost use Rattle.node_table.specs.Clean.{is_clean_node, IsReadyNode};
 ghost use Rattle.node_table.specs.Dirty.{dirty_lists, dirty_among, dirty_from, dirty_below};
-ghost use Rattle.node_table.specs.NodeView.{views, row_of, tree_at, IsRootIn};
-ghost use Rattle.node_table.specs.Staging.{IsLinkIn, AreLinksIn};
+ghost use Rattle.table_nodes.specs.NodeView.{views, row_of, tree_at, IsRootIn};
+ghost use Rattle.table_nodes.specs.Links.{IsLinkIn, AreLinksIn};
 
-use crate::link::Link;
-use crate::node::Root;
 use crate::table::NodeTable;
+use table_nodes::{Link, Root};
 
 impl NodeTable {
     /// The first dirty node below a root, children before their parent: all nodes below it are clean. None exactly where

@@ -8,22 +8,19 @@ ghost use Rattle.index_media.specs.KeyedKeys.{AreKeysBounded};
 ghost use Rattle.index_media.specs.KeyedRemoval.{replaced_by_keys};
 ghost use Rattle.index_media.specs.KeyedRow.{KeyedRow, no_more, bare};
 ghost use Rattle.node_table.specs.Exchange.{IsExchange, exchanged, exchanged_node, links_to};
-ghost use Rattle.node_table.specs.NodeView.{views, row_of, children_in};
-ghost use Rattle.node_table.specs.Sound.{IsSoundView};
-ghost use Rattle.node_table.specs.Staging.{row_before, AreLinksIn, IsAdded};
+ghost use Rattle.table_nodes.specs.NodeView.{views, row_of, children_in};
+ghost use Rattle.table_nodes.specs.Sound.{IsSoundView};
+ghost use Rattle.table_nodes.specs.Links.{row_before, AreLinksIn, IsAdded};
 
-use crate::bisect::{begin_below, begin_within};
-use crate::holding::same;
-use crate::link::Link;
-use crate::node::Root;
-use crate::rank::rank;
 use crate::table::NodeTable;
 use index_media::{
     a_removal_keeps_what_nodes_are, a_replacement_keeps_what_nodes_are,
     a_replacement_leaves_the_keys_of_branches,
 };
 use index_tree::Leaf;
+use node_cache::{rank, same_leaf};
 use std::alloc::{AllocError, Global};
+use table_nodes::{Link, Root, begin_below, begin_within};
 use ubifs_base::Memory;
 
 /// What is left of a node's children may be a node's, if any are left; a replacement leaves as many.
@@ -118,7 +115,7 @@ impl NodeTable {
                 }
                 match *link {
                     Link::ToLeaf(leaf) => {
-                        if same(&leaf, gone) {
+                        if same_leaf(&leaf, gone) {
                             push_leaf(come, made)?;
                             made.extend_from_slice(rest)?;
                             return Ok(true);

@@ -5,14 +5,13 @@ ghost use Rattle.index_tree.specs.Order.{of_rank};
 ghost use Rattle.index_tree.specs.Shape.{contents};
 ghost use Rattle.index_media.specs.KeyedKeys.{AreKeysBounded};
 ghost use Rattle.index_media.specs.KeyedRow.{bare};
-ghost use Rattle.node_table.specs.NodeView.{views, row_of, children_in};
+ghost use Rattle.table_nodes.specs.NodeView.{views, row_of, children_in};
 ghost use Rattle.node_table.specs.Walk.{inside, IsNthOf};
 
-use crate::bisect::{begin_below, begin_within, lower_links_passed};
-use crate::link::Link;
-use crate::rank::rank;
 use crate::table::NodeTable;
 use index_tree::Leaf;
+use node_cache::rank;
+use table_nodes::{Link, begin_below, begin_within, lower_links_passed};
 
 impl NodeTable {
     /// The leaf of this rank behind `nth` others of the same below a node; none where there are too few of them.

@@ -2,35 +2,17 @@
 
 ghost use Rattle.std.specs.Prelude.{◌≡◌, None, slice_get};
 ghost use Rattle.index_tree.specs.Order.{leaf_rank};
-ghost use Rattle.index_tree.specs.Removal.{holds, same_leaf};
+ghost use Rattle.index_tree.specs.Removal.{holds};
 ghost use Rattle.index_tree.specs.Shape.{contents};
 ghost use Rattle.index_media.specs.KeyedKeys.{AreKeysBounded};
 ghost use Rattle.index_media.specs.KeyedRow.{bare};
-ghost use Rattle.node_table.specs.NodeView.{views, row_of, children_in};
+ghost use Rattle.table_nodes.specs.NodeView.{views, row_of, children_in};
 ghost use Rattle.node_table.specs.Walk.{inside};
 
-use crate::bisect::{begin_below, begin_within, lower_links_passed};
-use crate::link::Link;
-use crate::rank::rank;
 use crate::table::NodeTable;
 use index_tree::Leaf;
-
-/// Whether two leaves have the same key and the same place.
-#[tactic(auto, unfolding(index_tree::specs::Removal::same_leaf))]
-pub fn same(x: &Leaf, y: &Leaf) -> bool
-    ensures { result ≡ same_leaf x.now y.now }
-{
-    if rank(&x.key) != rank(&y.key) {
-        return false;
-    }
-    if x.lnum != y.lnum {
-        return false;
-    }
-    if x.offs != y.offs {
-        return false;
-    }
-    x.len == y.len
-}
+use node_cache::{rank, same_leaf};
+use table_nodes::{Link, begin_below, begin_within, lower_links_passed};
 
 impl NodeTable {
     /// Whether a leaf stands below a node.
@@ -79,7 +61,7 @@ impl NodeTable {
     {
         match *link {
             Link::ToLeaf(leaf) => {
-                if same(&leaf, sought) {
+                if same_leaf(&leaf, sought) {
                     return true;
                 }
                 false

@@ -4,19 +4,18 @@ ghost use Rattle.std.specs.Prelude.{◌≡◌, ◌<◌, true, IfOk, OnOk, Option
 ghost use Rattle.index_tree.specs.Shape.{fits};
 ghost use Rattle.index_media.specs.Insertion.{first_key, inserted_by_keys, keyed_parted, lowered};
 ghost use Rattle.index_media.specs.KeyedRow.{KeyedRow, no_more, node_in, bare};
-ghost use Rattle.node_table.specs.NodeView.{NodeView, link_key, views, row_of, children_in, tree_at, IsRootIn};
-ghost use Rattle.node_table.specs.Sound.{IsSoundView};
-ghost use Rattle.node_table.specs.Staging.{row_before, AreLinksIn, IsAdded, IsGrownRow, insertion_passes};
-ghost use Rattle.node_table.specs.declared.node.Root.{Root as ARoot};
+ghost use Rattle.table_nodes.specs.NodeView.{NodeView, link_key, views, row_of, children_in, tree_at, IsRootIn};
+ghost use Rattle.table_nodes.specs.Sound.{IsSoundView};
+ghost use Rattle.table_nodes.specs.Links.{row_before, AreLinksIn, IsAdded};
+ghost use Rattle.node_table.specs.Staging.{IsGrownRow, insertion_passes};
+ghost use Rattle.table_nodes.specs.declared.node.Root.{Root as ARoot};
 ghost use Rattle.ubifs_base.specs.Key.{IsKey};
 
-use crate::bisect::begin_within;
-use crate::link::Link;
-use crate::node::{Root, TableNode};
-use crate::rank::rank;
 use crate::table::NodeTable;
 use index_tree::Leaf;
+use node_cache::rank;
 use std::alloc::{AllocError, Global};
+use table_nodes::{Link, Root, TableNode, begin_within};
 use ubifs_base::{Key, Memory};
 
 /// A copy of some links.

@@ -3,29 +3,17 @@
 
 ghost use Rattle.std.specs.List.{last_or};
 ghost use Rattle.std.specs.Prelude.{◌≡◌, None, slice_get};
-ghost use Rattle.index_tree.specs.LastBlock.{is_block_of, last_block, up_to};
+ghost use Rattle.index_tree.specs.LastBlock.{last_block, up_to};
 ghost use Rattle.index_tree.specs.Shape.{contents};
 ghost use Rattle.index_media.specs.KeyedKeys.{AreKeysBounded};
 ghost use Rattle.index_media.specs.KeyedRow.{bare};
-ghost use Rattle.node_table.specs.NodeView.{views, row_of, children_in};
+ghost use Rattle.table_nodes.specs.NodeView.{views, row_of, children_in};
 ghost use Rattle.node_table.specs.Walk.{inside};
 
-use crate::bisect::{begin_within, links_passed};
-use crate::link::Link;
-use crate::rank::{last_rank, rank};
 use crate::table::NodeTable;
 use index_tree::Leaf;
-use ubifs_base::Key;
-
-/// Whether a key is that of a block of this inode.
-fn is_block_of(key: &Key, ino: u32) -> bool
-    ensures { result ≡ is_block_of ino key.now }
-{
-    match *key {
-        Key::Block { ino: owner, .. } => owner == ino,
-        _ => false,
-    }
-}
+use node_cache::{is_block_of, last_rank, rank};
+use table_nodes::{Link, begin_within, links_passed};
 
 impl NodeTable {
     /// The greatest block leaf of this inode below a node, the last one of equals.

@@ -4,12 +4,13 @@ ghost use Rattle.std.specs.Prelude.{◌≡◌, ◌<◌, true, ℕ, List, Option,
 ghost use Rattle.index_media.specs.Clean.{is_clean_row, placed_of};
 ghost use Rattle.index_media.specs.KeyedRow.{KeyedRow, all_clean, bare};
 ghost use Rattle.node_table.specs.Dirty.{dirty_below};
-ghost use Rattle.node_table.specs.NodeView.{tree_at, IsRootIn};
+ghost use Rattle.table_nodes.specs.NodeView.{tree_at, IsRootIn};
 ghost use Rattle.node_table.specs.Placing.{IsPlacedRow, KeepsPlaces, without_number};
-ghost use Rattle.node_table.specs.Staging.{IsAdded, IsSoundRoot};
-ghost use Rattle.node_table.specs.declared.node.NodePlace.{NodePlace as APlace};
-ghost use Rattle.node_table.specs.declared.node.Root.{Root as ARoot};
-ghost use Rattle.node_table.specs.declared.node.TableNode.{TableNode as ANode};
+ghost use Rattle.table_nodes.specs.Links.{IsAdded};
+ghost use Rattle.node_table.specs.Staging.{IsSoundRoot};
+ghost use Rattle.table_nodes.specs.declared.node.NodePlace.{NodePlace as APlace};
+ghost use Rattle.table_nodes.specs.declared.node.Root.{Root as ARoot};
+ghost use Rattle.table_nodes.specs.declared.node.TableNode.{TableNode as ANode};
 
 /// A root of a table is one of the table with more nodes, a sound one is sound there, the same index stands below it,
 /// and the same nodes of it are dirty.

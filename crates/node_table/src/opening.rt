@@ -4,13 +4,12 @@ ghost use Rattle.std.specs.Prelude.{◌≡◌, ◌≤◌, IfSome, IfNone, Option
 ghost use Rattle.index_media.specs.KeyedKeys.{AreKeysBounded};
 ghost use Rattle.index_media.specs.KeyedRow.{no_more, bare};
 ghost use Rattle.index_tree.specs.Shape.{fits};
-ghost use Rattle.node_table.specs.NodeView.{views, view_of, row_of, children_in, tree_at, IsRootIn};
-ghost use Rattle.node_table.specs.Sound.{IsSoundView};
-ghost use Rattle.node_table.specs.declared.node.Root.{Root as ARoot};
+ghost use Rattle.table_nodes.specs.NodeView.{views, view_of, row_of, children_in, tree_at, IsRootIn};
+ghost use Rattle.table_nodes.specs.Sound.{IsSoundView};
+ghost use Rattle.table_nodes.specs.declared.node.Root.{Root as ARoot};
 
-use crate::link::Link;
-use crate::node::TableNode;
 use crate::table::NodeTable;
+use table_nodes::{Link, TableNode};
 
 impl NodeTable {
     /// The node that stands at this number; none where there is no such node.

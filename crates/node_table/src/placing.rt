@@ -3,13 +3,13 @@
 ghost use Rattle.std.specs.Prelude.{◌≡◌, Option, slice_get};
 ghost use Rattle.node_table.specs.Clean.{IsReadyNode};
 ghost use Rattle.node_table.specs.Dirty.{dirty_below};
-ghost use Rattle.node_table.specs.NodeView.{views, children_in, tree_at};
+ghost use Rattle.table_nodes.specs.NodeView.{views, children_in, tree_at};
 ghost use Rattle.node_table.specs.Placing.{with_place, IsPlacedRow, without_number};
 ghost use Rattle.node_table.specs.Staging.{IsSoundRoot};
-ghost use Rattle.node_table.specs.declared.node.Root.{Root as ARoot};
+ghost use Rattle.table_nodes.specs.declared.node.Root.{Root as ARoot};
 
-use crate::node::{NodePlace, TableNode};
 use crate::table::NodeTable;
+use table_nodes::{NodePlace, TableNode};
 
 /// Gives a node a place, if it is there.
 fn put_place(nodes: &mut Vec<TableNode>, number: u64, place: NodePlace)

@@ -6,22 +6,20 @@ ghost use Rattle.index_tree.specs.Shape.{contents, count, fits};
 ghost use Rattle.index_media.specs.KeyedKeys.{AreKeysBounded};
 ghost use Rattle.index_media.specs.KeyedRange.{pruned_by_keys};
 ghost use Rattle.index_media.specs.KeyedRow.{KeyedRow, no_more, bare};
-ghost use Rattle.node_table.specs.NodeView.{views, row_of, children_in};
+ghost use Rattle.table_nodes.specs.NodeView.{views, row_of, children_in};
 ghost use Rattle.node_table.specs.Pruning.{pruned_link, pruned_node};
-ghost use Rattle.node_table.specs.Sound.{IsSoundView};
-ghost use Rattle.node_table.specs.Staging.{row_before, AreLinksIn, IsLinkIn, IsAdded};
+ghost use Rattle.table_nodes.specs.Sound.{IsSoundView};
+ghost use Rattle.table_nodes.specs.Links.{row_before, AreLinksIn, IsLinkIn, IsAdded};
 ghost use Rattle.node_table.specs.Walk.{inside};
 
-use crate::bisect::{begin_below, begin_within};
-use crate::link::Link;
-use crate::node::Root;
-use crate::rank::rank;
 use crate::table::NodeTable;
 use index_media::{
     a_range_removal_keeps_what_nodes_are, a_range_removal_leaves_the_keys_of_branches,
 };
 use index_tree::Leaf;
+use node_cache::rank;
 use std::alloc::Global;
+use table_nodes::{Link, Root, begin_below, begin_within};
 use ubifs_base::Memory;
 
 /// What is left of a node's children may be a node's, if any are left; where none is of the range, all stay.

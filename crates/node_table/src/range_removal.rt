@@ -4,17 +4,18 @@ ghost use Rattle.std.specs.Prelude.{◌≡◌, ◌-◌, ◌^◌, min, IfOk, leng
 ghost use Rattle.index_tree.specs.Order.{key_rank};
 ghost use Rattle.index_tree.specs.RangeRemoval.{within_range};
 ghost use Rattle.index_media.specs.KeyedRange.{without_range_by_keys};
-ghost use Rattle.node_table.specs.NodeView.{tree_at, leaves_at};
-ghost use Rattle.node_table.specs.Staging.{IsAdded, IsSoundRoot};
+ghost use Rattle.table_nodes.specs.NodeView.{tree_at, leaves_at};
+ghost use Rattle.table_nodes.specs.Links.{IsAdded};
+ghost use Rattle.node_table.specs.Staging.{IsSoundRoot};
 
-use crate::node::Root;
-use crate::rank::rank;
 use crate::rooting::only_node;
 use crate::table::NodeTable;
 use index_media::{
     a_range_removal_keeps_what_nodes_are, a_range_removal_leaves_the_keys_of_branches,
 };
+use node_cache::rank;
 use std::alloc::Global;
+use table_nodes::Root;
 use ubifs_base::{Key, Memory};
 
 /// What a removal of a range makes: the root of what is left, and how many leaves went (`u64::MAX` stands for more as well).

@@ -5,14 +5,13 @@ ghost use Rattle.index_tree.specs.RangeRemoval.{within_range};
 ghost use Rattle.index_tree.specs.Shape.{contents};
 ghost use Rattle.index_media.specs.KeyedKeys.{AreKeysBounded};
 ghost use Rattle.index_media.specs.KeyedRow.{bare};
-ghost use Rattle.node_table.specs.NodeView.{views, row_of, children_in};
+ghost use Rattle.table_nodes.specs.NodeView.{views, row_of, children_in};
 ghost use Rattle.node_table.specs.Walk.{inside};
 
-use crate::bisect::{begin_below, begin_within, lower_links_passed};
-use crate::link::Link;
 use crate::pruning::is_in_range;
 use crate::table::NodeTable;
 use index_tree::Leaf;
+use table_nodes::{Link, begin_below, begin_within, lower_links_passed};
 use ubifs_base::Memory;
 
 impl NodeTable {

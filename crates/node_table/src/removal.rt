@@ -4,12 +4,12 @@ ghost use Rattle.std.specs.Prelude.{◌≡◌, ◌<◌, IfOk, Option, None, Some
 ghost use Rattle.index_tree.specs.Order.{leaf_rank};
 ghost use Rattle.index_media.specs.KeyedRemoval.{keyed_collapsed, replaced_by_keys};
 ghost use Rattle.node_table.specs.Exchange.{tree_without};
-ghost use Rattle.node_table.specs.NodeView.{tree_at, IsRootIn};
-ghost use Rattle.node_table.specs.Staging.{IsAdded, IsSoundRoot};
-ghost use Rattle.node_table.specs.declared.node.Root.{Root as ARoot};
+ghost use Rattle.table_nodes.specs.NodeView.{tree_at, IsRootIn};
+ghost use Rattle.table_nodes.specs.Links.{IsAdded};
+ghost use Rattle.node_table.specs.Staging.{IsSoundRoot};
+ghost use Rattle.table_nodes.specs.declared.node.Root.{Root as ARoot};
 ghost use Rattle.ubifs_base.specs.Key.{IsKey};
 
-use crate::node::Root;
 use crate::rooting::only_node;
 use crate::table::NodeTable;
 use index_media::{
@@ -18,6 +18,7 @@ use index_media::{
 };
 use index_tree::Leaf;
 use std::alloc::Global;
+use table_nodes::Root;
 use ubifs_base::Memory;
 
 impl NodeTable {

@@ -2,17 +2,17 @@
 
 ghost use Rattle.std.specs.Prelude.{◌≡◌, ◌+◌, IfOk, Option, Some};
 ghost use Rattle.index_media.specs.Insertion.{with_leaf_by_keys};
-ghost use Rattle.node_table.specs.NodeView.{tree_at, IsRootIn};
-ghost use Rattle.node_table.specs.Staging.{only_root, IsAdded, IsSoundRoot, IsTopRow};
-ghost use Rattle.node_table.specs.declared.node.Root.{Root as ARoot};
+ghost use Rattle.table_nodes.specs.NodeView.{tree_at, IsRootIn};
+ghost use Rattle.table_nodes.specs.Links.{IsAdded};
+ghost use Rattle.node_table.specs.Staging.{only_root, IsSoundRoot, IsTopRow};
+ghost use Rattle.table_nodes.specs.declared.node.Root.{Root as ARoot};
 ghost use Rattle.ubifs_base.specs.Key.{IsKey};
 
 use crate::insertion::first_key;
-use crate::link::Link;
-use crate::node::{Root, TableNode};
 use crate::table::NodeTable;
 use index_tree::Leaf;
 use std::alloc::Global;
+use table_nodes::{Link, Root, TableNode};
 use ubifs_base::Memory;
 
 /// The node that links lead to, if they are one link to a node.

@@ -3,12 +3,12 @@
 ghost use Rattle.std.specs.Prelude.{◌≡◌, ◌==◌, ◌++◌, OnOk, filter, slice_get};
 ghost use Rattle.index_tree.specs.Shape.{contents};
 ghost use Rattle.index_media.specs.KeyedRow.{bare};
-ghost use Rattle.node_table.specs.NodeView.{views, row_of, children_in};
+ghost use Rattle.table_nodes.specs.NodeView.{views, row_of, children_in};
 ghost use Rattle.node_table.specs.Walk.{inside};
 
-use crate::link::Link;
 use crate::table::NodeTable;
 use index_tree::Leaf;
+use table_nodes::Link;
 use ubifs_base::Memory;
 
 impl NodeTable {

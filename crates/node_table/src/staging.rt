@@ -2,18 +2,19 @@
 
 ghost use Rattle.std.specs.Prelude.{◌≡◌, IfOk, OnErr};
 ghost use Rattle.node_table.specs.Changing.{IsChange, AreChanges, changed, changed_by, leaves_after, leaves_after_all};
-ghost use Rattle.node_table.specs.NodeView.{tree_at, leaves_at};
-ghost use Rattle.node_table.specs.Staging.{IsAdded, IsSoundRoot};
+ghost use Rattle.table_nodes.specs.NodeView.{tree_at, leaves_at};
+ghost use Rattle.table_nodes.specs.Links.{IsAdded};
+ghost use Rattle.node_table.specs.Staging.{IsSoundRoot};
 
 use crate::change::Change;
 use crate::counting::truncate_both;
-use crate::node::Root;
 use crate::table::NodeTable;
 use index_media::{
     a_range_removal_leaves_the_keys_of_branches, a_removal_leaves_the_keys_of_branches,
     a_replacement_leaves_the_keys_of_branches, an_insertion_goes_by_the_keys_of_branches,
 };
 use std::alloc::Global;
+use table_nodes::Root;
 use ubifs_base::Memory;
 
 impl NodeTable {

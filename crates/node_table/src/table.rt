@@ -6,20 +6,20 @@ ghost use Rattle.index_tree.specs.Order.{key_rank, of_rank, first_after};
 ghost use Rattle.index_tree.specs.RangeRemoval.{within_range};
 ghost use Rattle.index_tree.specs.Removal.{holds};
 ghost use Rattle.index_media.specs.KeyedRow.{no_more, node_in};
-ghost use Rattle.node_table.specs.Beyond.{is_loaded, are_loaded};
+ghost use Rattle.table_nodes.specs.Beyond.{is_loaded, are_loaded};
 ghost use Rattle.node_table.specs.Clean.{is_clean_below, are_clean_below};
 ghost use Rattle.node_table.specs.Counting.{counts_of_all, counted-prop};
-ghost use Rattle.node_table.specs.NodeView.{views, view_of, row_of, stretch_at, tree_at, leaves_at, IsRootIn};
-ghost use Rattle.node_table.specs.Sound.{IsSoundView, AreSoundViews, sound_views-prop};
-ghost use Rattle.node_table.specs.declared.node.Root.{Root as ARoot};
+ghost use Rattle.table_nodes.specs.NodeView.{views, view_of, row_of, stretch_at, tree_at, leaves_at, IsRootIn};
+ghost use Rattle.table_nodes.specs.Sound.{IsSoundView, AreSoundViews, sound_views-prop};
+ghost use Rattle.table_nodes.specs.declared.node.Root.{Root as ARoot};
 ghost use Rattle.ubifs_base.specs.declared.key.Key.{Key as AKey};
 
 use crate::counting::push_both;
 use crate::counts::TreeCounts;
-use crate::node::{Root, TableNode};
-use crate::rank::rank;
 use index_tree::Leaf;
+use node_cache::rank;
 use std::alloc::Global;
+use table_nodes::{Root, TableNode};
 use ubifs_base::{Key, Memory};
 
 /// Nodes, named by the order in which they were added, from 0 on.

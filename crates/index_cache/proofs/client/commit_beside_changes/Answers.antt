@@ -1,7 +1,7 @@
 use Rattle.std.proofs.Common.{◌≡◌, ap, ◌∙◌}
 use Rattle.index_media.specs.KeyedRow.{bare}
 use Rattle.index_tree.specs.Shape.{contents}
-use Rattle.node_table.specs.NodeView.{tree_at}
+use Rattle.table_nodes.specs.NodeView.{tree_at}
 use Rattle.index_cache.specs.Paged.{tree_of, frozen_of}
 use Rattle.index_cache.proofs.Written.{plain_placed, ok_then}
 use Rattle.index_cache.proofs.client.commit_beside_changes.Goals as goal

@@ -4,11 +4,11 @@ use Rattle.index_media.specs.Clean.{is_clean_row}
 use Rattle.index_media.specs.KeyedRow.{KeyedRow, no_more, node_in, all_clean}
 use Rattle.index_media.specs.PlacedRow.{branches_of, stretch_of, leaf_of}
 use Rattle.media_sys.specs.Index.{Index}
-use Rattle.node_table.specs.NodeView.{views, row_of}
-use Rattle.node_table.specs.Sound.{IsSoundView}
-use Rattle.node_table.specs.Staging.{row_before, AreLinksIn}
-use Rattle.node_table.specs.declared.link.Link.{Link}
-use Rattle.node_table.specs.declared.link.Link.TheVariants.{ToLeaf, ToNode}
+use Rattle.table_nodes.specs.NodeView.{views, row_of}
+use Rattle.table_nodes.specs.Sound.{IsSoundView}
+use Rattle.table_nodes.specs.Links.{row_before, AreLinksIn}
+use Rattle.table_nodes.specs.declared.link.Link.{Link}
+use Rattle.table_nodes.specs.declared.link.Link.TheVariants.{ToLeaf, ToNode}
 use Rattle.index_cache.proofs.Links.{links_in_added, links_in_append, made_row, node_behind, leaf_behind}
 use Rattle.node_cache.specs.RowsOn.{row_moved, first_leaf, first_node, below, row_as}
 use Rattle.index_cache.proofs.Placed.{none_clean, all_is_clean, sound_below}

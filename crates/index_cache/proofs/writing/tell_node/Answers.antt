@@ -1,7 +1,7 @@
 use Rattle.std.proofs.Common.{◌++◌, List, ap, sym, ◌∙◌}
 use Rattle.std.specs.Prelude.{map}
 use Rattle.media_sys.specs.declared.branch.Branch.{Branch}
-use Rattle.node_table.specs.NodeView.{views}
+use Rattle.table_nodes.specs.NodeView.{views}
 use Rattle.index_cache.specs.Commit.{link_branch}
 use Rattle.index_cache.proofs.Written.{linked_branches}
 use Rattle.index_cache.proofs.writing.tell_node.Goals as goal

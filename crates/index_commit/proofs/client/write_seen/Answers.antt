@@ -1,8 +1,8 @@
 use Rattle.std.proofs.Common.{◌++◌, List, ℕ, sym, subst}
 use Rattle.std.specs.Prelude.{Option}
 use Rattle.index_media.specs.KeyedRow.{KeyedRow}
-use Rattle.node_table.specs.NodeView.{tree_at}
-use Rattle.node_table.specs.declared.node.Root.{Root}
+use Rattle.table_nodes.specs.NodeView.{tree_at}
+use Rattle.table_nodes.specs.declared.node.Root.{Root}
 use Rattle.index_cache.specs.Paged.{tree_of}
 use Rattle.index_commit.specs.Lebs.{AreApart}
 use Rattle.index_commit.specs.Standing.{AreOutside}

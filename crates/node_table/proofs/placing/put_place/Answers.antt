@@ -1,7 +1,7 @@
 use Rattle.std.proofs.Common.{ap, sym, ◌∙◌}
 use Rattle.std.specs.Prelude.{Some}
 use Rattle.std.proofs.lemmas.Option.{slice_get-get_or}
-use Rattle.node_table.specs.declared.node.TableNode.{TableNode}
+use Rattle.table_nodes.specs.declared.node.TableNode.{TableNode}
 use Rattle.node_table.proofs.PlacedTable.{put_there, put_past}
 use Rattle.node_table.proofs.placing.put_place.Goals as goal
 

@@ -2,8 +2,8 @@ use Rattle.std.proofs.Common.{ℕ, ◌+◌, ◌*◌, ◌≡◌, length, ap, sym,
 use Rattle.index_media.specs.Clean.{placed_of}
 use Rattle.index_media.specs.KeyedRow.{KeyedRow}
 use Rattle.index_media.specs.PlacedRow.{branches_of}
-use Rattle.node_table.specs.BeyondLaws.{table_row}
-use Rattle.node_table.specs.NodeView.{views, children_in}
+use Rattle.table_nodes.specs.BeyondLaws.{table_row}
+use Rattle.table_nodes.specs.NodeView.{views, children_in}
 use Rattle.index_cache.proofs.Written.{few_links, branches_long}
 use Rattle.index_cache.proofs.paged.PagedIndex.len_of.Goals as goal
 

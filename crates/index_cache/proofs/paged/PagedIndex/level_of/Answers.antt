@@ -3,7 +3,7 @@ use Rattle.index_media.specs.Clean.{placed_of}
 use Rattle.index_media.specs.KeyedRow.{bare}
 use Rattle.index_tree.specs.Levels.{levelled}
 use Rattle.index_media.specs.PlacedRow.{branches_of}
-use Rattle.node_table.specs.NodeView.{views, children_in}
+use Rattle.table_nodes.specs.NodeView.{views, children_in}
 use Rattle.index_cache.specs.Commit.{level_in}
 use Rattle.index_cache.proofs.Written.{few_children}
 use Rattle.index_cache.proofs.paged.PagedIndex.level_of.Goals as goal

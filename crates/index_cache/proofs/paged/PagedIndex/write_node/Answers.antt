@@ -4,8 +4,8 @@ use Rattle.index_media.specs.Clean.{placed_of}
 use Rattle.index_media.specs.KeyedRow.{KeyedRow}
 use Rattle.index_media.specs.PlacedRow.{branches_of}
 use Rattle.media_sys.specs.Index.{in_order}
-use Rattle.node_table.specs.BeyondLaws.{table_row}
-use Rattle.node_table.specs.NodeView.{views, view_of}
+use Rattle.table_nodes.specs.BeyondLaws.{table_row}
+use Rattle.table_nodes.specs.NodeView.{views, view_of}
 use Rattle.index_cache.proofs.Written.{few_links, says_node}
 use Rattle.index_cache.proofs.paged.PagedIndex.write_node.Goals as goal
 

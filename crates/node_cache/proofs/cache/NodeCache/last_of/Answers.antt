@@ -3,7 +3,8 @@ use Rattle.index_tree.specs.LastBlock.{last_block}
 use Rattle.index_tree.specs.Shape.{contents}
 use Rattle.index_media.specs.PlacedRow.{plain}
 use Rattle.node_cache.proofs.Entered.{entered, root_said}
-use Rattle.node_cache.proofs.LastBlocks.{block_found, block_missing, none_up_to, row_ascends}
+use Rattle.node_cache.specs.LastBlockLaws.{block_found, block_missing, none_up_to}
+use Rattle.node_cache.proofs.LastBlocks.{row_ascends}
 use Rattle.node_cache.proofs.cache.NodeCache.last_of.Goals as goal
 
 pub level_at-requires : goal.level_at-requires

@@ -2,8 +2,8 @@ use Rattle.std.proofs.Common.{None, List, drop, take, ap, sym, subst, arith, ◌
 use Rattle.index_tree.specs.Shape.{contents}
 use Rattle.index_media.specs.KeyedKeys.{AreKeysBounded}
 use Rattle.index_media.specs.KeyedRow.{KeyedRow, bare}
-use Rattle.node_table.specs.NodeView.{views, row_of}
-use Rattle.node_table.specs.declared.link.Link.{Link}
+use Rattle.table_nodes.specs.NodeView.{views, row_of}
+use Rattle.table_nodes.specs.declared.link.Link.{Link}
 use Rattle.node_table.proofs.Ending.{last_up_to, last_second, last_first, last_outside, last_inside, none_behind, leaves_split, front_small, front_bounded}
 use Rattle.node_table.proofs.Rows.{row_size, passed}
 use Rattle.node_table.proofs.table.NodeTable.+ending.Goals as goal

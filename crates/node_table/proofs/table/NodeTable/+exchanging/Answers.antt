@@ -6,16 +6,16 @@ use Rattle.index_tree.specs.Shape.{contents, done}
 use Rattle.index_media.specs.InsertionSound.{fit_node}
 use Rattle.index_media.specs.KeyedRow.{KeyedRow, no_more, bare}
 use Rattle.node_table.specs.Exchange.{exchanged, links_to}
-use Rattle.node_table.specs.NodeView.{views, row_of}
-use Rattle.node_table.specs.Sound.{IsSoundView}
-use Rattle.node_table.specs.Staging.{row_before, AreLinksIn}
+use Rattle.table_nodes.specs.NodeView.{views, row_of}
+use Rattle.table_nodes.specs.Sound.{IsSoundView}
+use Rattle.table_nodes.specs.Links.{row_before, AreLinksIn}
 use Rattle.node_table.specs.Walk.{inside}
-use Rattle.node_table.specs.declared.link.Link.{Link}
-use Rattle.node_table.specs.declared.link.Link.TheVariants.{ToNode}
+use Rattle.table_nodes.specs.declared.link.Link.{Link}
+use Rattle.table_nodes.specs.declared.link.Link.TheVariants.{ToNode}
 use Rattle.node_table.proofs.Exchanged.{lower_inside, behind_bounded, found_outside, found_inside, other_leaf, none_among, among_out, among_taken, among_below, among_beside, among_on, links_to_in, rest_kept, below_stays, below_gone, below_left, left_sound}
 use Rattle.node_table.proofs.Inserted.{first_there, rest_there, rest_fits, row_kept, made_row}
 use Rattle.node_table.proofs.Rows.{row_size, linked_size}
-use Rattle.node_table.proofs.Staged.{links_in_append, links_in_added}
+use Rattle.table_nodes.specs.LinkLaws.{links_in_append, links_in_added}
 use Rattle.node_table.proofs.table.NodeTable.+exchanging.Goals as goal
 
 pub exchange_among-exchange_among-requires : goal.exchange_among-exchange_among-requires
@@ -69,17 +69,17 @@ exchange_among-returns-then-begin_below-clause-made t c =
     ∙ among_out seen gone c.args.come link rest c.args.links.now c.args.made.now.items is out)
     c.exchange_among.ensures.made
 
-pub exchange_among-returns-then-same-clause-made : goal.exchange_among-returns-then-same-clause-made
-exchange_among-returns-then-same-clause-made t c =
+pub exchange_among-returns-then-same_leaf-clause-made : goal.exchange_among-returns-then-same_leaf-clause-made
+exchange_among-returns-then-same_leaf-clause-made t c =
     let seen = views c.args.self.now.nodes.items in
     let rest = c.in-Some.rest.now in
     let is = c.in-Some.ensures.cases.0 ∙ ap (λ (l : Link). l ∷ rest) c.in-ToLeaf.is in
     let items = c.in_ok-extend_from_slice-in-ToLeaf.ensures.items ∙ ap (λ (v : List Link). v ++ rest) c.in_ok-push_leaf-in-ToLeaf.ensures in
     ap (λ v. row_before seen v no_more) items
-    ∙ among_taken seen c.args.gone.now c.in-ToLeaf.leaf c.args.come rest c.args.links.now c.args.made.now.items is (sym c.same.ensures ∙ c.if-same.true)
+    ∙ among_taken seen c.args.gone.now c.in-ToLeaf.leaf c.args.come rest c.args.links.now c.args.made.now.items is (sym c.same_leaf.ensures ∙ c.if-same_leaf.true)
 
-pub exchange_among-returns-then-same-clause-there : goal.exchange_among-returns-then-same-clause-there
-exchange_among-returns-then-same-clause-there t c =
+pub exchange_among-returns-then-same_leaf-clause-there : goal.exchange_among-returns-then-same_leaf-clause-there
+exchange_among-returns-then-same_leaf-clause-there t c =
     let old = c.args.self.now.nodes.items in
     let n = length old in
     let rest = c.in-Some.rest.now in
@@ -205,7 +205,7 @@ exchange_among-returns-in_ok-push-in-ToLeaf-clause-made t c =
     let link = c.in-Some.link.now in
     let rest = c.in-Some.rest.now in
     let O : Link → Type 0 = λ l. holds gone (contents (bare (inside seen l))) ≡ false in
-    let out = subst O (sym c.in-ToLeaf.is) (other_leaf seen gone c.in-ToLeaf.leaf (sym c.same.ensures ∙ c.if-same.false)) in
+    let out = subst O (sym c.in-ToLeaf.is) (other_leaf seen gone c.in-ToLeaf.leaf (sym c.same_leaf.ensures ∙ c.if-same_leaf.false)) in
     let Q : KeyedRow → Type 0 = λ r. OnOk c.exchange_among-in-ToLeaf.result (row_before (views c.exchange_among-in-ToLeaf.new.self.nodes.items) c.exchange_among-in-ToLeaf.new.made.items no_more ≡ r) in
     subst Q (ap (λ v. row_before seen v (exchanged gone c.args.come (row_of seen rest))) c.in_ok-push-in-ToLeaf.ensures.items
     ∙ among_out seen gone c.args.come link rest c.args.links.now c.args.made.now.items c.in-Some.ensures.cases.0 out)

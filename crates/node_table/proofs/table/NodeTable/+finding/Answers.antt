@@ -5,8 +5,8 @@ use Rattle.index_tree.specs.declared.leaf.Leaf.{Leaf}
 use Rattle.index_tree.specs.Shape.{contents}
 use Rattle.index_media.specs.KeyedKeys.{AreKeysBounded}
 use Rattle.index_media.specs.KeyedRow.{KeyedRow, bare}
-use Rattle.node_table.specs.NodeView.{views, row_of, link_key}
-use Rattle.node_table.specs.declared.link.Link.{Link}
+use Rattle.table_nodes.specs.NodeView.{views, row_of, link_key}
+use Rattle.table_nodes.specs.declared.link.Link.{Link}
 use Rattle.node_table.specs.Walk.{IsNthOf}
 use Rattle.node_table.proofs.Finding.{of_rank_passed, of_rank_lower, nth_inside, nth_outside, none_outside}
 use Rattle.node_table.proofs.Rows.{row_size, passed, link_bounds}

@@ -3,8 +3,8 @@ use Rattle.index_tree.specs.Order.{first_after}
 use Rattle.index_tree.specs.Shape.{contents}
 use Rattle.index_media.specs.KeyedKeys.{AreKeysBounded}
 use Rattle.index_media.specs.KeyedRow.{KeyedRow, bare}
-use Rattle.node_table.specs.NodeView.{views, row_of}
-use Rattle.node_table.specs.declared.link.Link.{Link}
+use Rattle.table_nodes.specs.NodeView.{views, row_of}
+use Rattle.table_nodes.specs.declared.link.Link.{Link}
 use Rattle.node_table.proofs.Following.{after_passed, after_inside, after_outside}
 use Rattle.node_table.proofs.Rows.{row_size, passed}
 use Rattle.node_table.proofs.table.NodeTable.+following.Goals as goal

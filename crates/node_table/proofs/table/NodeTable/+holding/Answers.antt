@@ -4,8 +4,8 @@ use Rattle.index_tree.specs.Removal.{holds}
 use Rattle.index_tree.specs.Shape.{contents}
 use Rattle.index_media.specs.KeyedKeys.{AreKeysBounded}
 use Rattle.index_media.specs.KeyedRow.{KeyedRow, bare}
-use Rattle.node_table.specs.NodeView.{views, row_of, link_key}
-use Rattle.node_table.specs.declared.link.Link.{Link}
+use Rattle.table_nodes.specs.NodeView.{views, row_of, link_key}
+use Rattle.table_nodes.specs.declared.link.Link.{Link}
 use Rattle.node_table.proofs.HoldsLaws.{holds_passed, holds_lower, holds_inside, holds_outside, holds_nowhere}
 use Rattle.node_table.proofs.Rows.{row_size, passed, link_bounds}
 use Rattle.node_table.proofs.table.NodeTable.+holding.Goals as goal

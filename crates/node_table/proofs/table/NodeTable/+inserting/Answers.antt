@@ -2,13 +2,14 @@ use Rattle.std.proofs.Common.{List, ◌≡◌, ◌∷◌, ◌++◌, [], ap, sym,
 use Rattle.std.specs.Prelude.{OnOk, slice_get}
 use Rattle.index_media.specs.Insertion.{inserted_by_keys}
 use Rattle.index_media.specs.KeyedRow.{KeyedRow, no_more}
-use Rattle.node_table.specs.NodeView.{views, row_of, children_in}
-use Rattle.node_table.specs.Staging.{row_before, AreLinksIn, insertion_passes}
-use Rattle.node_table.specs.declared.link.Link.{Link}
-use Rattle.node_table.specs.declared.link.Link.TheVariants.{ToLeaf}
+use Rattle.table_nodes.specs.NodeView.{views, row_of, children_in}
+use Rattle.table_nodes.specs.Links.{row_before, AreLinksIn}
+use Rattle.node_table.specs.Staging.{insertion_passes}
+use Rattle.table_nodes.specs.declared.link.Link.{Link}
+use Rattle.table_nodes.specs.declared.link.Link.TheVariants.{ToLeaf}
 use Rattle.node_table.proofs.Inserted.{among_none, among_passed, among_leaf, among_node, rest_there, all_there, first_there, rest_fits, made_row, below_made, below_grown}
 use Rattle.node_table.proofs.Rows.{row_size, linked_size}
-use Rattle.node_table.proofs.Staged.{links_in_append, links_in_added}
+use Rattle.table_nodes.specs.LinkLaws.{links_in_append, links_in_added}
 use Rattle.node_table.proofs.table.NodeTable.+inserting.Goals as goal
 
 pub insert_among-insert_among-requires : goal.insert_among-insert_among-requires

@@ -7,17 +7,17 @@ use Rattle.index_tree.specs.declared.leaf.Leaf.{Leaf}
 use Rattle.index_media.specs.InsertionSound.{fit_node}
 use Rattle.index_media.specs.KeyedRange.{pruned_by_keys}
 use Rattle.index_media.specs.KeyedRow.{KeyedRow, no_more, bare}
-use Rattle.node_table.specs.NodeView.{views, row_of}
-use Rattle.node_table.specs.Sound.{IsSoundView}
-use Rattle.node_table.specs.Staging.{row_before, AreLinksIn}
+use Rattle.table_nodes.specs.NodeView.{views, row_of}
+use Rattle.table_nodes.specs.Sound.{IsSoundView}
+use Rattle.table_nodes.specs.Links.{row_before, AreLinksIn}
 use Rattle.node_table.specs.Walk.{inside}
-use Rattle.node_table.specs.declared.link.Link.{Link}
-use Rattle.node_table.specs.declared.link.Link.TheVariants.{ToNode}
+use Rattle.table_nodes.specs.declared.link.Link.{Link}
+use Rattle.table_nodes.specs.declared.link.Link.TheVariants.{ToNode}
 use Rattle.node_table.proofs.Exchanged.{behind_bounded, rest_kept, left_sound}
 use Rattle.node_table.proofs.Inserted.{first_there, rest_there, rest_fits, row_kept, made_row}
 use Rattle.node_table.proofs.Pruned.{link_lower, links_higher, range_apart, range_behind, range_inside, both_gone, none_gone, some_gone, among_passed, among_last, among_more, leaf_stays, below_same, below_emptied, below_left}
 use Rattle.node_table.proofs.Rows.{row_size, linked_size}
-use Rattle.node_table.proofs.Staged.{links_in_append, links_in_added}
+use Rattle.table_nodes.specs.LinkLaws.{links_in_append, links_in_added}
 use Rattle.node_table.proofs.table.NodeTable.+pruning.Goals as goal
 
 pub prune_among-prune_among-requires : goal.prune_among-prune_among-requires

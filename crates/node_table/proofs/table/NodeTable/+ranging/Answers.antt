@@ -5,8 +5,8 @@ use Rattle.index_tree.specs.Shape.{contents}
 use Rattle.index_tree.specs.declared.leaf.Leaf.{Leaf}
 use Rattle.index_media.specs.KeyedKeys.{AreKeysBounded}
 use Rattle.index_media.specs.KeyedRow.{KeyedRow, bare}
-use Rattle.node_table.specs.NodeView.{views, row_of}
-use Rattle.node_table.specs.declared.link.Link.{Link}
+use Rattle.table_nodes.specs.NodeView.{views, row_of}
+use Rattle.table_nodes.specs.declared.link.Link.{Link}
 use Rattle.node_table.proofs.Pruned.{link_lower, links_higher, range_behind, range_inside, range_lower}
 use Rattle.node_table.proofs.Rows.{row_size, passed}
 use Rattle.node_table.proofs.table.NodeTable.+ranging.Goals as goal

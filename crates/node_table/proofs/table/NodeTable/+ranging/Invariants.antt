@@ -1,6 +1,6 @@
 use Rattle.std.proofs.Common.{◌+◌, ◌*◌}
 use Rattle.std.specs.Prelude.{slice_get}
-use Rattle.node_table.specs.NodeView.{views, row_of, children_in}
+use Rattle.table_nodes.specs.NodeView.{views, row_of, children_in}
 use Rattle.node_table.proofs.Rows.{row_size, link_size}
 use Rattle.node_table.proofs.table.NodeTable.+ranging.Given as goal
 

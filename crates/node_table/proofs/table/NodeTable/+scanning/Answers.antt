@@ -4,7 +4,7 @@ use Rattle.std.proofs.lemmas.List.Elements.{filter-append}
 use Rattle.index_tree.specs.declared.leaf.Leaf.{Leaf}
 use Rattle.index_tree.specs.Shape.{contents}
 use Rattle.index_media.specs.KeyedRow.{KeyedRow, bare}
-use Rattle.node_table.specs.NodeView.{views, row_of}
+use Rattle.table_nodes.specs.NodeView.{views, row_of}
 use Rattle.node_table.specs.Walk.{inside}
 use Rattle.node_table.proofs.Rows.{row_size, link_apart}
 use Rattle.node_table.proofs.table.NodeTable.+scanning.Goals as goal

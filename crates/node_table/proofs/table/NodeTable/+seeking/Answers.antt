@@ -4,17 +4,17 @@ use Rattle.std.proofs.lemmas.Option.{slice_get_within}
 use Rattle.index_tree.specs.Shape.{fits}
 use Rattle.index_media.specs.Clean.{is_clean_row}
 use Rattle.index_media.specs.KeyedRow.{KeyedRow, bare}
-use Rattle.node_table.specs.BeyondLaws.{table_row}
+use Rattle.table_nodes.specs.BeyondLaws.{table_row}
 use Rattle.node_table.specs.Dirty.{dirty_lists, dirty_among}
-use Rattle.node_table.specs.NodeView.{views, view_of, row_of}
+use Rattle.table_nodes.specs.NodeView.{views, view_of, row_of}
 use Rattle.node_table.specs.Pruning.{place_in}
-use Rattle.node_table.specs.Staging.{AreLinksIn}
-use Rattle.node_table.specs.declared.link.Link.{Link}
+use Rattle.table_nodes.specs.Links.{AreLinksIn}
+use Rattle.table_nodes.specs.declared.link.Link.{Link}
 use Rattle.node_table.proofs.Cleaning.{placed_is_clean, placed_list, dirty_list, dirty_view, first_some, first_none}
 use Rattle.node_table.proofs.DirtyLists.{dirty_opened, dirty_past}
 use Rattle.node_table.proofs.Rows.{row_size}
-use Rattle.node_table.proofs.Staged.{links_there}
-use Rattle.node_table.proofs.Viewing.{children_fit, views_length}
+use Rattle.table_nodes.specs.LinkLaws.{links_there}
+use Rattle.table_nodes.specs.NodeViewLaws.{children_fit, views_length}
 use Rattle.node_table.proofs.table.NodeTable.+seeking.Goals as goal
 
 pub first_dirty-returns-in-None-clause-first : goal.first_dirty-returns-in-None-clause-first

@@ -1,5 +1,5 @@
 use Rattle.std.specs.Prelude.{slice_get}
-use Rattle.node_table.specs.NodeView.{views, children_in}
+use Rattle.table_nodes.specs.NodeView.{views, children_in}
 use Rattle.node_table.proofs.Rows.{row_size}
 use Rattle.node_table.proofs.table.NodeTable.+sink_root.Given as goal
 

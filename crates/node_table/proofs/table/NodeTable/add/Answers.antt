@@ -1,7 +1,7 @@
 use Rattle.std.proofs.Common.{ap, ◌∙◌}
 use Rattle.std.specs.Prelude.{is_ok}
 use Rattle.node_table.specs.Counting.{counts_of}
-use Rattle.node_table.specs.NodeView.{views, row_of}
+use Rattle.table_nodes.specs.NodeView.{views, row_of}
 use Rattle.node_table.proofs.Adding.{after_push, after_push_loaded, after_push_settled}
 use Rattle.node_table.proofs.Counted.{after_both}
 use Rattle.node_table.proofs.table.NodeTable.add.Goals as goal

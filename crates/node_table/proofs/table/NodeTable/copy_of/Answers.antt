@@ -1,10 +1,10 @@
 use Rattle.std.proofs.Common.{None, List, ap, sym, subst, ◌∙◌}
 use Rattle.index_media.specs.KeyedRow.{KeyedRow}
-use Rattle.node_table.specs.BeyondLaws.{loaded_at, table_row}
-use Rattle.node_table.specs.NodeView.{views, view_of, row_of}
-use Rattle.node_table.specs.Sound.{IsSoundView}
-use Rattle.node_table.specs.declared.link.Link.{Link}
-use Rattle.node_table.proofs.Viewing.{opened, opened_node, sound_at}
+use Rattle.table_nodes.specs.BeyondLaws.{loaded_at, table_row}
+use Rattle.table_nodes.specs.NodeView.{views, view_of, row_of}
+use Rattle.table_nodes.specs.Sound.{IsSoundView}
+use Rattle.table_nodes.specs.declared.link.Link.{Link}
+use Rattle.table_nodes.specs.NodeViewLaws.{opened, opened_node, sound_at}
 use Rattle.node_table.proofs.table.NodeTable.copy_of.Goals as goal
 
 pub returns-in_ok-links-in-Some-clause-children : goal.returns-in_ok-links-in-Some-clause-children

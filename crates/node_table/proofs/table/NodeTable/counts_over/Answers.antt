@@ -1,4 +1,4 @@
-use Rattle.node_table.specs.NodeView.{views}
+use Rattle.table_nodes.specs.NodeView.{views}
 use Rattle.node_table.proofs.Counted.{counted_ok}
 use Rattle.node_table.proofs.table.NodeTable.counts_over.Goals as goal
 

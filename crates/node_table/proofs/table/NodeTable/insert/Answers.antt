@@ -1,9 +1,9 @@
 use Rattle.std.proofs.Common.{None, Some, refl, ap, sym, ◌∙◌}
 use Rattle.index_media.specs.Insertion.{first_key}
-use Rattle.node_table.specs.NodeView.{views, row_of, tree_at}
+use Rattle.table_nodes.specs.NodeView.{views, row_of, tree_at}
 use Rattle.node_table.specs.Staging.{only_root}
-use Rattle.node_table.specs.declared.node.Root.{Root}
-use Rattle.node_table.specs.declared.node.TableNode.{TableNode}
+use Rattle.table_nodes.specs.declared.node.Root.{Root}
+use Rattle.table_nodes.specs.declared.node.TableNode.{TableNode}
 use Rattle.node_table.proofs.Rooted.{row_sound, root_sound, only_made, only_there, raised_made, row_fits, pushed_there}
 use Rattle.node_table.proofs.table.NodeTable.insert.Goals as goal
 

@@ -1,7 +1,7 @@
 use Rattle.std.proofs.Common.{ap, sym, ◌∙◌}
 use Rattle.index_media.specs.Insertion.{inserted_by_keys}
 use Rattle.index_media.specs.KeyedRow.{no_more}
-use Rattle.node_table.specs.NodeView.{tree_at}
+use Rattle.table_nodes.specs.NodeView.{tree_at}
 use Rattle.node_table.proofs.Inserted.{top_made, tree_kept}
 use Rattle.node_table.proofs.table.NodeTable.insert_row.Goals as goal
 

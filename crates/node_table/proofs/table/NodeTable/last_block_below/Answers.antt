@@ -2,8 +2,9 @@ use Rattle.std.proofs.Common.{sym, ◌∙◌}
 use Rattle.std.specs.Prelude.{slice_get}
 use Rattle.index_tree.specs.Shape.{contents}
 use Rattle.index_media.specs.KeyedRow.{bare}
-use Rattle.node_table.specs.NodeView.{views, children_in}
-use Rattle.node_table.proofs.LastBlocks.{below_ascend, block_found, block_missing, none_up_to}
+use Rattle.table_nodes.specs.NodeView.{views, children_in}
+use Rattle.node_cache.specs.LastBlockLaws.{block_found, block_missing, none_up_to}
+use Rattle.node_table.proofs.LastBlocks.{below_ascend}
 use Rattle.node_table.proofs.table.NodeTable.last_block_below.Goals as goal
 
 pub returns-in-None : goal.returns-in-None

@@ -1,7 +1,7 @@
 use Rattle.std.proofs.Common.{ℕ, Option, ◌≡◌, ◌+◌, sym, subst}
-use Rattle.node_table.specs.NodeView.{tree_at}
+use Rattle.table_nodes.specs.NodeView.{tree_at}
 use Rattle.node_table.specs.Staging.{IsSoundRoot, IsTopRow}
-use Rattle.node_table.specs.declared.node.Root.{Root}
+use Rattle.table_nodes.specs.declared.node.Root.{Root}
 use Rattle.node_table.proofs.Rooted.{none_row, top_row, ok_to}
 use Rattle.node_table.proofs.table.NodeTable.level_above.Goals as goal
 

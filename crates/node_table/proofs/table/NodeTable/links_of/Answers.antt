@@ -1,9 +1,9 @@
 use Rattle.std.proofs.Common.{None, List, ap, sym, subst, ◌∙◌}
 use Rattle.index_media.specs.KeyedKeys.{AreKeysBounded}
-use Rattle.node_table.specs.BeyondLaws.{loaded_at}
-use Rattle.node_table.specs.NodeView.{views, row_of}
-use Rattle.node_table.specs.declared.link.Link.{Link}
-use Rattle.node_table.proofs.Viewing.{opened_node, none_opened}
+use Rattle.table_nodes.specs.BeyondLaws.{loaded_at}
+use Rattle.table_nodes.specs.NodeView.{views, row_of}
+use Rattle.table_nodes.specs.declared.link.Link.{Link}
+use Rattle.table_nodes.specs.NodeViewLaws.{opened_node, none_opened}
 use Rattle.node_table.proofs.table.NodeTable.links_of.Goals as goal
 
 pub returns-in-None-clause-none : goal.returns-in-None-clause-none

@@ -1,7 +1,7 @@
 use Rattle.std.proofs.Common.{ap, ◌∙◌}
-use Rattle.node_table.specs.BeyondLaws.{table_row}
-use Rattle.node_table.specs.NodeView.{views, view_of, children_in}
-use Rattle.node_table.proofs.Viewing.{opened, sound_at, not_there}
+use Rattle.table_nodes.specs.BeyondLaws.{table_row}
+use Rattle.table_nodes.specs.NodeView.{views, view_of, children_in}
+use Rattle.table_nodes.specs.NodeViewLaws.{opened, sound_at, not_there}
 use Rattle.node_table.proofs.table.NodeTable.node_at.Goals as goal
 
 pub returns-in-Some-clause-seen : goal.returns-in-Some-clause-seen

@@ -4,7 +4,7 @@ use Rattle.index_tree.specs.Order.{of_rank}
 use Rattle.index_tree.specs.Shape.{contents}
 use Rattle.index_media.specs.KeyedRow.{bare}
 use Rattle.std.specs.Prelude.{slice_get}
-use Rattle.node_table.specs.NodeView.{views, children_in}
+use Rattle.table_nodes.specs.NodeView.{views, children_in}
 use Rattle.node_table.proofs.table.NodeTable.nth_below.Goals as goal
 
 pub returns-in-Err : goal.returns-in-Err

@@ -1,9 +1,9 @@
 use Rattle.std.proofs.Common.{None, ◌∙◌, ap, subst, sym, List, length}
-use Rattle.node_table.specs.NodeView.{views}
-use Rattle.node_table.specs.Staging.{row_before, AreLinksIn}
-use Rattle.node_table.specs.declared.link.Link.{Link}
-use Rattle.node_table.specs.declared.node.TableNode.{TableNode}
-use Rattle.node_table.proofs.Staged.{node_pushed, links_in_pushed}
+use Rattle.table_nodes.specs.NodeView.{views}
+use Rattle.table_nodes.specs.Links.{row_before, AreLinksIn}
+use Rattle.table_nodes.specs.declared.link.Link.{Link}
+use Rattle.table_nodes.specs.declared.node.TableNode.{TableNode}
+use Rattle.table_nodes.specs.LinkLaws.{node_pushed, links_in_pushed}
 use Rattle.node_table.proofs.table.NodeTable.push_node.Goals as goal
 
 pub returns-clause-made : goal.returns-clause-made

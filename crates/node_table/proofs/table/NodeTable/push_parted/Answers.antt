@@ -3,10 +3,10 @@ use Rattle.std.specs.Prelude.{OnOk}
 use Rattle.index_tree.specs.Shape.{left_half}
 use Rattle.index_media.specs.Insertion.{first_key}
 use Rattle.index_media.specs.KeyedRow.{KeyedRow, node_in}
-use Rattle.node_table.specs.NodeView.{views, row_of}
-use Rattle.node_table.specs.Sound.{IsSoundView}
-use Rattle.node_table.specs.Staging.{row_before}
-use Rattle.node_table.specs.declared.link.Link.{Link}
+use Rattle.table_nodes.specs.NodeView.{views, row_of}
+use Rattle.table_nodes.specs.Sound.{IsSoundView}
+use Rattle.table_nodes.specs.Links.{row_before}
+use Rattle.table_nodes.specs.declared.link.Link.{Link}
 use Rattle.node_table.proofs.Inserted.{back_sound, back_row_kept, parted_two}
 use Rattle.node_table.proofs.Staged.{whole_sound, whole_stays, halved, front_row, back_row, links_counted}
 use Rattle.node_table.proofs.table.NodeTable.push_parted.Goals as goal

@@ -1,9 +1,9 @@
 use Rattle.std.proofs.Common.{Option, None, Some, ◌≡◌, ap, sym, subst, ◌∙◌}
 use Rattle.index_media.specs.KeyedRow.{no_more}
 use Rattle.node_table.specs.Exchange.{tree_without}
-use Rattle.node_table.specs.NodeView.{tree_at, IsRootIn}
+use Rattle.table_nodes.specs.NodeView.{tree_at, IsRootIn}
 use Rattle.node_table.specs.Staging.{only_root, IsSoundRoot}
-use Rattle.node_table.specs.declared.node.Root.{Root}
+use Rattle.table_nodes.specs.declared.node.Root.{Root}
 use Rattle.node_table.proofs.Inserted.{tree_kept, sound_kept}
 use Rattle.node_table.proofs.Removed.{without_none, left_row, none_left, one_left, sound_by, without_sound}
 use Rattle.node_table.proofs.table.NodeTable.remove.Goals as goal

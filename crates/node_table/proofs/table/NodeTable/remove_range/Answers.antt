@@ -2,9 +2,9 @@ use Rattle.std.proofs.Common.{Option, Some, ◌≡◌, ap, sym, subst, ◌∙◌
 use Rattle.index_tree.specs.Order.{key_rank}
 use Rattle.index_media.specs.KeyedRange.{without_range_by_keys}
 use Rattle.index_media.specs.KeyedRow.{no_more}
-use Rattle.node_table.specs.NodeView.{tree_at}
+use Rattle.table_nodes.specs.NodeView.{tree_at}
 use Rattle.node_table.specs.Staging.{only_root}
-use Rattle.node_table.specs.declared.node.Root.{Root}
+use Rattle.table_nodes.specs.declared.node.Root.{Root}
 use Rattle.node_table.proofs.PrunedRoot.{left_of, all_pruned, some_pruned, none_pruned, by_ranks}
 use Rattle.node_table.proofs.Removed.{sound_by}
 use Rattle.node_table.proofs.table.NodeTable.remove_range.Goals as goal

@@ -1,9 +1,9 @@
 use Rattle.std.proofs.Common.{Option, None, Some, ◌≡◌, ap, sym, subst, ◌∙◌}
 use Rattle.index_media.specs.KeyedRemoval.{replaced_by_keys}
 use Rattle.index_media.specs.KeyedRow.{no_more}
-use Rattle.node_table.specs.NodeView.{tree_at, IsRootIn}
+use Rattle.table_nodes.specs.NodeView.{tree_at, IsRootIn}
 use Rattle.node_table.specs.Staging.{only_root, IsSoundRoot}
-use Rattle.node_table.specs.declared.node.Root.{Root}
+use Rattle.table_nodes.specs.declared.node.Root.{Root}
 use Rattle.node_table.proofs.Inserted.{tree_kept, sound_kept}
 use Rattle.node_table.proofs.Removed.{replaced_none, left_row, replaced_left, option_linked, sound_by}
 use Rattle.node_table.proofs.table.NodeTable.replace.Goals as goal

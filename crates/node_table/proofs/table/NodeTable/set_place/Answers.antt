@@ -1,14 +1,14 @@
 use Rattle.std.proofs.Common.{List, ap, sym, ◌∙◌, subst}
 use Rattle.std.specs.Prelude.{slice_get}
-use Rattle.node_table.specs.Beyond.{are_loaded}
+use Rattle.table_nodes.specs.Beyond.{are_loaded}
 use Rattle.node_table.specs.Clean.{are_clean_below}
 use Rattle.node_table.specs.Dirty.{dirty_below}
 use Rattle.node_table.specs.Placing.{IsPlacedRow}
-use Rattle.node_table.specs.NodeView.{views, children_in, tree_at}
-use Rattle.node_table.specs.Sound.{AreSoundViews}
+use Rattle.table_nodes.specs.NodeView.{views, children_in, tree_at}
+use Rattle.table_nodes.specs.Sound.{AreSoundViews}
 use Rattle.node_table.specs.Staging.{IsSoundRoot}
 use Rattle.node_table.specs.Counting.{counts_of_all}
-use Rattle.node_table.specs.declared.node.TableNode.{TableNode}
+use Rattle.table_nodes.specs.declared.node.TableNode.{TableNode}
 use Rattle.node_table.proofs.PlacedTable.{table_placed}
 use Rattle.node_table.proofs.table.NodeTable.set_place.Goals as goal
 

@@ -1,7 +1,7 @@
 use Rattle.std.proofs.Common.{arith, ◌≡◌, ◌∙◌, length, ap}
-use Rattle.node_table.specs.Beyond.{are_loaded}
+use Rattle.table_nodes.specs.Beyond.{are_loaded}
 use Rattle.node_table.specs.Clean.{are_clean_below}
-use Rattle.node_table.specs.NodeView.{views}
+use Rattle.table_nodes.specs.NodeView.{views}
 use Rattle.node_table.proofs.Counted.{taken_both, taken_back}
 use Rattle.node_table.proofs.table.NodeTable.stage.Goals as goal
 

@@ -2,11 +2,11 @@ use Rattle.std.proofs.Common.{ap, ◌∙◌}
 use Rattle.std.specs.Prelude.{get_or}
 use Rattle.ubifs_base.specs.declared.key.Key.TheVariants.{Ino}
 use Rattle.node_table.specs.Changing.{changed, leaves_after}
-use Rattle.node_table.specs.NodeView.{tree_at, leaves_at}
+use Rattle.table_nodes.specs.NodeView.{tree_at, leaves_at}
 use Rattle.node_table.specs.declared.change.Change.{Change}
 use Rattle.node_table.specs.declared.change.Change.TheVariants.{Insert}
 use Rattle.node_table.proofs.Changed.{changed_more, leaves_more, change_at}
-use Rattle.node_table.proofs.Staged.{added_both}
+use Rattle.table_nodes.specs.LinkLaws.{added_both}
 use Rattle.node_table.proofs.table.NodeTable.stage_all.Goals as goal
 
 -- what is read where no change is

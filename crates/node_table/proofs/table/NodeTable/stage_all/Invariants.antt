@@ -1,7 +1,8 @@
 use Rattle.std.proofs.Common.{◌≡◌, take}
 use Rattle.node_table.specs.Changing.{changed_by, leaves_after_all}
-use Rattle.node_table.specs.NodeView.{tree_at, leaves_at}
-use Rattle.node_table.specs.Staging.{IsAdded, IsSoundRoot}
+use Rattle.table_nodes.specs.NodeView.{tree_at, leaves_at}
+use Rattle.table_nodes.specs.Links.{IsAdded}
+use Rattle.node_table.specs.Staging.{IsSoundRoot}
 use Rattle.node_table.proofs.table.NodeTable.stage_all.Given as goal
 
 abbrev pub invariant-loop-change : goal.invariant-loop-change

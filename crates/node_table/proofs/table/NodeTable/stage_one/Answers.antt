@@ -6,9 +6,9 @@ use Rattle.index_tree.specs.Shape.{contents}
 use Rattle.index_media.specs.KeyedRow.{KeyedRow, bare}
 use Rattle.node_table.specs.Changing.{leaves_after}
 use Rattle.node_table.specs.Exchange.{tree_without}
-use Rattle.node_table.specs.NodeView.{tree_at, leaves_at}
+use Rattle.table_nodes.specs.NodeView.{tree_at, leaves_at}
 use Rattle.node_table.specs.declared.change.Change.{Change}
-use Rattle.node_table.specs.declared.node.Root.{Root}
+use Rattle.table_nodes.specs.declared.node.Root.{Root}
 use Rattle.node_table.proofs.Changed.{top_short, without_leaves}
 use Rattle.node_table.proofs.Rooted.{ok_to}
 use Rattle.node_table.proofs.table.NodeTable.stage_one.Goals as goal

@@ -1,4 +1,4 @@
-use Rattle.node_table.proofs.Viewing.{root_fits}
+use Rattle.table_nodes.specs.NodeViewLaws.{root_fits}
 use Rattle.node_table.proofs.table.NodeTable.trees_fit.Goals as goal
 
 pub returns : goal.returns

@@ -1,5 +1,0 @@
-use Rattle.node_table.specs.Beyond.{lebs_held}
-use Rattle.node_table.proofs.seen.see_medium.Given as goal
-
-abbrev pub ghost-tell_of : goal.ghost-tell_of
-ghost-tell_of g a = λ volume. lebs_held (g.V.Volume.state volume).holds (g.V.Volume.state volume).leb_cnt

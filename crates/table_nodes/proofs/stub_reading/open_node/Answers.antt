@@ -1,0 +1,21 @@
+use Rattle.std.proofs.Common.{List, ◌∙◌, ap}
+use Rattle.index_media.specs.KeyedRow.{all_clean}
+use Rattle.media_sys.specs.Index.{Index}
+use Rattle.media_sys.specs.declared.branch.Branch.{Branch}
+use Rattle.rows_below.specs.RowBelow.{row_by}
+use Rattle.table_nodes.specs.Beyond.{contents_told}
+use Rattle.table_nodes.specs.NodeView.{views}
+use Rattle.table_nodes.specs.Links.{row_before}
+use Rattle.table_nodes.proofs.stub_reading.open_node.Goals as goal
+
+pub node-requires-clause-node : goal.node-requires-clause-node
+node-requires-clause-node g c = (c.requires.stands.0, c.requires.stands.1)
+
+pub returns-clause-opened : goal.returns-clause-opened
+returns-clause-opened g c =
+    let own = c.requires.stands in
+    let lebs = c.args.told.now.value in
+    let said = c.in_ok-node.ensures.said own.0 own.1 in
+    let same = c.as_slice.ensures.value ∙ ap (λ (i : Index). i.branches) said ∙ own.2 in
+    c.in_ok-open_branches.ensures.opened
+    ∙ ap (λ (l : List Branch). row_before (views c.args.nodes.now.items) c.args.links.now.items (all_clean (row_by (contents_told lebs) c.args.level l))) same

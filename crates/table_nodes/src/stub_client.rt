@@ -1,0 +1,54 @@
+// A client, from the clauses alone.
+
+ghost use Rattle.std.specs.Prelude.{◌≡◌, ◌+◌, ℕ, IfOk};
+ghost use Rattle.index_media.specs.KeyedRow.{no_more, all_clean};
+ghost use Rattle.index_media.specs.PlacedRow.{PlacedRow, ended, node_at};
+ghost use Rattle.node_cache.specs.Kept.{AreKept};
+ghost use Rattle.node_cache.specs.Loaded.{IsRead, IsRowOn};
+ghost use Rattle.table_nodes.specs.NodeView.{views};
+ghost use Rattle.table_nodes.specs.Links.{row_before};
+
+use crate::link::Link;
+use crate::node::{NodePlace, TableNode};
+use crate::seen::see_medium;
+use crate::stub_reading::open_node;
+use media_sys::Branch;
+use node_cache::NodeCache;
+use std::alloc::Global;
+use ubi_volume::{AreaFault, Volume};
+
+/// The children of a node: links to them, and a node for each that is no leaf.
+pub struct OpenedNode {
+    pub nodes: Vec<TableNode>,
+    pub links: Vec<Link>,
+}
+
+/// Tells what a volume holds, and opens the node to which a branch leads. Its level is given. The links show all that stands below
+/// it, and one node alone was read.
+pub fn open_on<V: Volume>(
+    alloc: Global,
+    volume: &mut V,
+    cache: &mut NodeCache,
+    branch: &Branch,
+    level: u16,
+) -> Result<OpenedNode, AreaFault>
+    requires row { (fanout : ℕ) × (row : PlacedRow) × IsRowOn (V.state volume.old) fanout (level + 1) (node_at branch.now row ended) }
+    requires kept { AreKept (V.state volume.old).holds cache.old }
+    ensures shown { (fanout : ℕ) (row : PlacedRow) → IsRowOn (V.state volume.old) fanout (level + 1) (node_at branch.now row ended)
+        → IfOk result (λ opened. row_before (views opened.nodes.items) opened.links.items no_more ≡ all_clean row) }
+    ensures reads { IsRead (V.state volume.old) (V.state volume.new) result }
+    ensures kept { AreKept (V.state volume.new).holds cache.new }
+{
+    let told = see_medium(volume);
+    let place = NodePlace {
+        lnum: branch.lnum,
+        offs: branch.offs,
+        len: branch.len,
+    };
+    let mut nodes = Vec::new(alloc);
+    let mut links = Vec::new(alloc);
+    open_node(
+        alloc, volume, cache, &mut nodes, &told, &place, level, &mut links,
+    )?;
+    Ok(OpenedNode { nodes, links })
+}
