@@ -11,7 +11,7 @@ use Rattle.ubifs_base.specs.declared.raw_geometry.RawGeometry.{RawGeometry}
 use Rattle.media_sys.specs.Index.{in_order, is_entry, may_follow}
 use Rattle.media_sys.specs.declared.branch.Branch.{Branch}
 use Rattle.index_tree.specs.Order.{key_rank, leaf_rank}
-use Rattle.index_tree.specs.Shape.{contents as leaves_in, count, fits}
+use Rattle.index_tree.specs.Shape.{contents as leaves_in, count, fits, shape_weight}
 use Rattle.index_tree.specs.declared.leaf.Leaf.{Leaf}
 use Rattle.index_media.specs.KeyedBounds.{AreAtMost}
 use Rattle.index_media.specs.Keys.{AreBounded, IsAtMost, bound_before, branch_rank}
@@ -19,10 +19,12 @@ use Rattle.index_media.specs.PlacedRow.{PlacedRow, ended, leaf_at, node_at, all_
 use Rattle.index_media.specs.Stored.{AreStored, IsIndexNodeAt, IsStoredIndex}
 use Rattle.laid_index.specs.Crowned.{IsCrowned, IsRowLaid}
 use Rattle.laid_index.specs.Opened.{GoesOnInLeb, Lays, taken_after, bytes_taken_of}
+use Rattle.laid_index.specs.Packing.{level_lens}
 use Rattle.laid_index.specs.Rows.{AreOver, HasFirstKey, IsGrown, StandOver, parents, row_front}
 use Rattle.laid_index.specs.declared.open_leb.OpenLeb.{OpenLeb}
 use Rattle.laid_index.proofs.Growing.{parents_all, parents_branches, parents_count, parents_grown, parents_leaves, parents_nodes}
 use Rattle.laid_index.proofs.Takes.{takes_among}
+use Rattle.laid_index.proofs.Weights.{count_is, levels_weigh, row_weighs, some_children}
 
 -- A level is laid over a row.
 pub row_grows : (geo : RawGeometry) (sqnum levels : ℕ) (leaves : List Leaf) (row : PlacedRow) (lens : List ℕ) (made : List Branch) (old new : OpenLeb) (was now : ℕ → List ℕ)
@@ -41,9 +43,9 @@ row_grows geo sqnum levels leaves row lens made old new was now one laid lays ov
 pub row_roots : (geo : RawGeometry) (levels : ℕ) (siblings : List Branch) (lens : List ℕ) (root : Branch) (old new : OpenLeb) (was now : ℕ → List ℕ)
     → 1 ≤ geo.fanout → length siblings ≤ geo.fanout → Lays geo lens (root ∷ []) old was new now → HasFirstKey root siblings
     → ((contents : ℕ → List ℕ) → GoesOnInLeb new now contents → IsIndexNodeAt contents root (record { level = levels; branches = siblings }))
-    → bytes_taken_of new ≡ taken_after geo old lens
+    → bytes_taken_of new ≡ taken_after geo old lens → level_lens geo.fanout (length siblings) ≡ lens
     → IsCrowned geo levels siblings lens old was root new now
-row_roots geo levels siblings lens root old new was now one few lays key stand after = record {
+row_roots geo levels siblings lens root old new was now one few lays key stand after lens_are = record {
   is_open = lays.is_open;
   first = lays.first;
   after = after;
@@ -56,6 +58,7 @@ row_roots geo levels siblings lens root old new was now one few lays key stand a
           row_grows geo sqnum levels leaves row lens (root ∷ []) old new was now one laid lays
               (subst P (sym e) (key, drop_all geo.fanout siblings few))
               (subst Q (sym e) (λ contents c. (subst (λ (l : List Branch). IsIndexNodeAt contents root (record { level = levels; branches = l })) (sym (take_all geo.fanout siblings few)) (stand contents c), tt))),
+          row_weighs geo.fanout siblings (root ∷ []) lens row one e lens_are (subst P (sym e) (key, drop_all geo.fanout siblings few)),
         ),
       );
 }
@@ -64,17 +67,25 @@ row_roots geo levels siblings lens root old new was now one few lays key stand a
 pub row_rises : (geo : RawGeometry) (levels : ℕ) (siblings made : List Branch) (lens above : List ℕ) (root : Branch) (old mid new : OpenLeb) (was then' now : ℕ → List ℕ)
     → 1 ≤ geo.fanout → Lays geo lens made old was mid then' → AreOver geo.fanout siblings made []
     → ((contents : ℕ → List ℕ) → GoesOnInLeb mid then' contents → StandOver contents geo.fanout levels siblings made)
-    → IsCrowned geo (levels + 1) made above mid then' root new now
+    → IsCrowned geo (levels + 1) made above mid then' root new now → level_lens geo.fanout (length siblings) ≡ lens
     → IsCrowned geo levels siblings (lens ++ above) old was root new now
-row_rises geo levels siblings made lens above root old mid new was then' now one lays over stand crowned = record {
+row_rises geo levels siblings made lens above root old mid new was then' now one lays over stand crowned lens_are = record {
   is_open = crowned.is_open;
   first = crowned.first ∙ lays.first;
   after = crowned.after ∙ lays.after above;
   row = λ sqnum leaves row e laid.
       let P : List Branch → Type 0 = λ l. AreOver geo.fanout l made [] in
       let Q : List Branch → Type 0 = λ l. (contents : ℕ → List ℕ) → GoesOnInLeb mid then' contents → StandOver contents geo.fanout levels l made in
-      crowned.row sqnum leaves (parents geo.fanout made row) (parents_branches geo.fanout made row)
-      (row_grows geo sqnum levels leaves row lens made old mid was then' one laid lays (subst P (sym e) over) (subst Q (sym e) stand));
+      let top = crowned.row sqnum leaves (parents geo.fanout made row) (parents_branches geo.fanout made row)
+      (row_grows geo sqnum levels leaves row lens made old mid was then' one laid lays (subst P (sym e) over) (subst Q (sym e) stand)) in
+      let own = row_weighs geo.fanout siblings made lens row one e lens_are (subst P (sym e) over) in (
+        top.0,
+        (
+          top.1.0,
+          top.1.1,
+          levels_weigh geo.fanout lens above (shape_weight geo.fanout (plain (node_at root top.1.0 ended))) (shape_weight geo.fanout (plain (parents geo.fanout made row))) (shape_weight geo.fanout (plain row)) top.1.2 own,
+        ),
+      );
 }
 
 -- What is grown stands,
@@ -83,15 +94,6 @@ unfolding AreStored
 grown_stored contents f levels ended h = tt
 grown_stored contents f levels (leaf_at x rest) h = (h.0, grown_stored contents f levels rest h.1)
 grown_stored contents f levels (node_at b c rest) h = (h.0, h.1, grown_stored contents f (levels - 1) c h.4, grown_stored contents f levels rest h.5)
-
-count_is : (row : PlacedRow) → count (plain row) ≡ length (branches_of row)
-count_is ended = refl
-count_is (leaf_at x rest) = let e = count_is rest in omega (arith, e)
-count_is (node_at b c rest) = let e = count_is rest in omega (arith, e)
-
-some_children : (b : Branch) (children : List Branch) → HasFirstKey b children → 0 < length children
-some_children b [] h = absurd cc
-some_children b (c ∷ cs) h = omega arith
 
 -- each node has a child, and at most as many as it may,
 pub grown_fits : (contents : ℕ → List ℕ) (f levels : ℕ) (row : PlacedRow) → IsGrown contents f levels row → fits f (plain row) ≡ true

@@ -64,10 +64,10 @@ nodes_split (suc n) (node_at b c rest) =
     ∙ ap (λ (l : List Branch). b ∷ all_nodes c ++ l) (nodes_split n rest)
 
 -- the branches of a row behind its first are those that are left
-over_back : (f : ℕ) (row : PlacedRow) (bs left : List Branch) → AreOver f (drop f (branches_of row)) bs left → AreOver f (branches_of (row_back f row)) bs left
+pub over_back : (f : ℕ) (row : PlacedRow) (bs left : List Branch) → AreOver f (drop f (branches_of row)) bs left → AreOver f (branches_of (row_back f row)) bs left
 over_back f row bs left h = let P : List Branch → Type 0 = λ l. AreOver f l bs left in subst P (sym (branches_back f row)) h
 
-row_none : (row : PlacedRow) → branches_of row ≡ [] → row ≡ ended
+pub row_none : (row : PlacedRow) → branches_of row ≡ [] → row ≡ ended
 row_none ended e = refl
 row_none (leaf_at x rest) e = absurd cc
 row_none (node_at b c rest) e = absurd cc

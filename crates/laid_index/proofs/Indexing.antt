@@ -9,14 +9,14 @@ use Rattle.ubifs_base.specs.declared.raw_geometry.RawGeometry.{RawGeometry}
 use Rattle.media_sys.specs.Index.{in_order}
 use Rattle.media_sys.specs.declared.branch.Branch.{Branch}
 use Rattle.index_tree.specs.Keyed.{HaveKeys}
-use Rattle.index_tree.specs.Shape.{contents as leaves_in}
+use Rattle.index_tree.specs.Shape.{contents as leaves_in, shape_weight}
 use Rattle.index_tree.specs.declared.leaf.Leaf.{Leaf}
 use Rattle.index_media.specs.PlacedRow.{PlacedRow, ended, leaf_at, node_at, all_nodes, branch_to, branches_of, plain}
 use Rattle.laid_main.specs.Filling.{AreFilled, TakesOfLebs}
 use Rattle.laid_index.specs.Crowned.{IsCrowned, IsRowLaid}
 use Rattle.laid_index.specs.Indexed.{IsLaidIndex}
 use Rattle.laid_index.specs.Opened.{GoesOnInLeb, IsClosed, AreNodesReady, open_lnum, taken_after, bytes_taken_of}
-use Rattle.laid_index.specs.Packing.{index_lens, index_used, lens_above, packed}
+use Rattle.laid_index.specs.Packing.{index_lens, index_used, index_weight, lens_above, packed}
 use Rattle.laid_index.specs.Rows.{AreInOrder, IsGrown}
 use Rattle.laid_index.specs.declared.laid_index.LaidIndex.{LaidIndex}
 use Rattle.laid_index.specs.declared.open_leb.OpenLeb.{OpenLeb}
@@ -78,6 +78,14 @@ row_leaves : (xs : List Leaf) → leaves_in (plain (row_of xs)) ≡ xs
 row_leaves [] = refl
 row_leaves (x ∷ xs) = ap (λ (l : List Leaf). x ∷ l) (row_leaves xs)
 
+-- which weighs nothing
+row_weight : (f : ℕ) (xs : List Leaf) → shape_weight f (plain (row_of xs)) ≡ 0
+row_weight f [] = refl
+row_weight f (x ∷ xs) = row_weight f xs
+
+nothing_more : (a b : ℕ) → a ≡ 0 → a + b ≡ b
+nothing_more a b none = omega (arith, none)
+
 row_nodes : (xs : List Leaf) → all_nodes (row_of xs) ≡ []
 row_nodes [] = refl
 row_nodes (x ∷ xs) = row_nodes xs
@@ -133,6 +141,7 @@ index_laid geo xs first sqnum root made start leb shut old was now keys order fr
       takes = subst T (sym used) (subst F from laid.takes);
       filled = subst G (sym is_used) (subst H (closed.first ∙ from) (closed_open geo leb shut was now crowned.is_open some closed same).filled);
       used = used ∙ crowned.after ∙ fresh_taken geo first sqnum start (index_lens geo.fanout (length xs)) fresh;
+      weight = top.1.2 ∙ nothing_more (shape_weight geo.fanout (plain (row_of xs))) (index_weight geo.fanout (length xs)) (row_weight geo.fanout xs);
       number = is_number ∙ closed.number ∙ laid.number;
     } in
     subst I (sym is_root) whole

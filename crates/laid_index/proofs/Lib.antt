@@ -2,6 +2,7 @@ mod Takes
 mod Packs
 mod Opening
 mod Growing
+mod Weights
 mod Answering
 mod Crowning
 mod Making

@@ -21,6 +21,15 @@ lens_above (suc levels) fanout n = level_lens fanout n ++ (if nat_le n fanout th
 abbrev pub index_lens : ℕ → ℕ → List ℕ
 index_lens fanout leaves = lens_above leaves fanout leaves
 
+-- what nodes of these lengths weigh: each counts once, and a full one twice
+abbrev pub lens_weight : ℕ → List ℕ → ℕ
+lens_weight fanout [] = 0
+lens_weight fanout (len ∷ lens) = (if nat_le (len_over fanout) len then 2 else 1) + lens_weight fanout lens
+
+-- what an index of so many leaves weighs
+abbrev pub index_weight : ℕ → ℕ → ℕ
+index_weight fanout leaves = lens_weight fanout (index_lens fanout leaves)
+
 -- How many bytes are taken of each LEB, if nodes of these lengths stand one behind another, each at a multiple of 8 and in the next LEB
 -- where it doesn't fit. Of the first LEB so many bytes are taken before
 unfoldable pub packed : ℕ → ℕ → List ℕ → List ℕ

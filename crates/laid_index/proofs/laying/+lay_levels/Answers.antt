@@ -1,4 +1,4 @@
-use Rattle.std.proofs.Common.{rules, ℕ, ◌+◌, ◌*◌, ◌<◌, ◌≤◌, List, [], ◌∷◌, length, Ok, Err, sym, subst, arith}
+use Rattle.std.proofs.Common.{rules, ℕ, ◌+◌, ◌*◌, ◌<◌, ◌≤◌, List, [], ◌∷◌, length, Ok, Err, refl, sym, subst, arith}
 use Rattle.ubifs_base.specs.RawOf.{raw_of}
 use Rattle.media_sys.specs.declared.branch.Branch.{Branch}
 use Rattle.index_media.specs.Stored.{IsIndexNodeAt}
@@ -11,7 +11,7 @@ use Rattle.laid_index.proofs.Answering.{answered_err, answered_then, answered_wi
 use Rattle.laid_index.proofs.Crowning.{row_rises, row_roots}
 use Rattle.laid_index.proofs.Levels.{level_order}
 use Rattle.laid_index.proofs.Making.{if_ok, if_ok_all}
-use Rattle.laid_index.proofs.Packs.{ceil_half, ceil_some, lens_root}
+use Rattle.laid_index.proofs.Packs.{ceil_half, ceil_some, lens_root, level_last}
 use Rattle.laid_index.proofs.Rising.{above_within, lays_taken, lens_made, level_high, level_low, level_within, made_count, ready_above, ready_level, ready_root}
 use Rattle.laid_index.proofs.laying.+lay_levels.Goals as goal
 
@@ -44,7 +44,8 @@ returns-then-siblings-geometry-clause-crowned g t c =
     (λ b. IsCrowned geo c.args.level siblings (lens_above n geo.fanout n) old was b new now)
     (λ b lays stands key.
     let P : List ℕ → Type 0 = λ l. IsCrowned geo c.args.level siblings l old was b new now in
-    subst P (sym e) (row_roots geo c.args.level siblings (len_over n ∷ []) b old new was now (omega (arith, wide)) le lays key stands (lays_taken geo (len_over n ∷ []) (b ∷ []) old new was now lays)))
+    subst P (sym e) (row_roots geo c.args.level siblings (len_over n ∷ []) b old new was now (omega (arith, wide)) le lays key stands (lays_taken geo (len_over n ∷ []) (b ∷ []) old new was now lays)
+    (level_last geo.fanout n c.requires.some le)))
     c.lay_node.ensures.lays c.lay_node.ensures.stands c.lay_node.ensures.key
 
 pub returns-then-siblings-geometry-clause-answer : goal.returns-then-siblings-geometry-clause-answer
@@ -140,7 +141,7 @@ returns-clause-crowned g t c =
     if_ok c.lay_levels.result (λ b. IsCrowned geo (c.args.level + 1) s above mid then' b new now) (λ b. IsCrowned geo c.args.level siblings (lens_above n f n) old was b new now)
     (λ b crowned.
     let P : List ℕ → Type 0 = λ l. IsCrowned geo c.args.level siblings l old was b new now in
-    subst P (sym e) (row_rises geo c.args.level siblings s (level_lens f n) above b old mid new was then' now (omega (arith, wide)) lays over stand crowned))
+    subst P (sym e) (row_rises geo c.args.level siblings s (level_lens f n) above b old mid new was then' now (omega (arith, wide)) lays over stand crowned refl))
     c.lay_levels.ensures.crowned
 
 pub returns-clause-answer : goal.returns-clause-answer
