@@ -19,7 +19,7 @@ use Rattle.tree_space.specs.Laid.{laid_weight}
 use Rattle.whole_image.specs.Made.{IsCoveredTree, IsCrowded, most_leaf_bytes}
 
 -- a LEB takes an index node at least
-node_fits : (geo : RawGeometry) → IsGeometry geo → 1 ≤ index_nodes_per_leb geo
+pub node_fits : (geo : RawGeometry) → IsGeometry geo → 1 ≤ index_nodes_per_leb geo
 node_fits geo h =
     let below = div-mul-le_self (28 + 20 * geo.fanout + 7) 8 in
     let size = h.leb_size.0 in
@@ -44,7 +44,7 @@ factor_le a b each some le = elim (cases_lt b a) [
 ]
 
 -- the LEBs of an index
-index_few : (geo : RawGeometry) (lebs weight : ℕ) → 1 ≤ index_nodes_per_leb geo → lebs * index_nodes_per_leb geo ≤ 2 * weight + index_nodes_per_leb geo → lebs ≤ 2 * index_lebs geo weight + 1
+pub index_few : (geo : RawGeometry) (lebs weight : ℕ) → 1 ≤ index_nodes_per_leb geo → lebs * index_nodes_per_leb geo ≤ 2 * weight + index_nodes_per_leb geo → lebs ≤ 2 * index_lebs geo weight + 1
 index_few geo lebs weight some le =
     let each = index_nodes_per_leb geo in
     let fits = weight_fits geo weight some in
@@ -52,7 +52,7 @@ index_few geo lebs weight some le =
     factor_le lebs (2 * index_lebs geo weight + 1) each some (omega (arith, le, fits, most))
 
 -- a proper tree takes bytes
-some_bytes : (tree : Tree) → 0 < length (live_leaves tree) → 0 < tree_bytes tree
+pub some_bytes : (tree : Tree) → 0 < length (live_leaves tree) → 0 < tree_bytes tree
 some_bytes tree some = by tree.inodes refl
   where
     by : (inodes : Inodes) → tree.inodes ≡ inodes → 0 < tree_bytes tree
@@ -80,7 +80,7 @@ pub covered : (geo : RawGeometry) (tree : Tree) → IsCoveredTree geo tree → l
 covered geo tree h count = record { weight = h.weight; weighed = let w = h.weighed in omega (arith, count, w); fits = h.fits }
 
 -- a smaller reserve leaves more
-less_kept : (main three beside bytes : ℕ) → bytes ≤ (main - three - 10) * beside → bytes ≤ (main - three - 6) * beside
+pub less_kept : (main three beside bytes : ℕ) → bytes ≤ (main - three - 10) * beside → bytes ≤ (main - three - 6) * beside
 less_kept main three beside bytes fits =
     let part = mul-le-mul_right beside (fewer main three) in
     omega (arith, fits, part)

@@ -4,6 +4,7 @@ use Rattle.std.specs.Prelude.{◌⊎◌, All, IsTrue, map, not, slice_get, take}
 use Rattle.std.specs.List.{AllByRecursion, list_all}
 use Rattle.std.specs.Option.{option_map_or}
 use Rattle.std.proofs.lemmas.Bool.{le-ltb}
+use Rattle.std.proofs.lemmas.List.{length-map}
 use Rattle.std.proofs.lemmas.List.Elements.{All-head, All-tail}
 use Rattle.ubifs_base.specs.Areas.{main_first, main_lebs}
 use Rattle.ubifs_base.specs.declared.raw_geometry.RawGeometry.{RawGeometry}
@@ -16,7 +17,7 @@ use Rattle.media_sys.specs.declared.master.Master.{Master}
 use Rattle.lpt_area.specs.declared.lpt_at.LptAt.{LptAt}
 use Rattle.small_areas.specs.Copies.{IsMasterLeb}
 use Rattle.index_tree.specs.Distinct.{AreDistinct}
-use Rattle.index_tree.specs.Shape.{contents as leaves_in}
+use Rattle.index_tree.specs.Shape.{contents as leaves_in, shape_weight}
 use Rattle.index_tree.specs.declared.leaf.Leaf.{Leaf}
 use Rattle.index_media.specs.PlacedRow.{PlacedRow, all_nodes, are_disjoint, branch_to, branches_of, plain}
 use Rattle.index_media.specs.Stored.{IsStoredIndex}
@@ -32,13 +33,17 @@ use Rattle.laid_main.specs.Props.{laid_props, prop_behind}
 use Rattle.tree_nodes.specs.Stored.{AreNodesOfTree}
 use Rattle.laid_tree.specs.Leaves.{AreLeavesLaid}
 use Rattle.laid_tree.specs.Standing.{StandInOrder, StandsUnmarked, is_plain}
+use Rattle.image_maker.specs.Leaves.{live_leaves}
+use Rattle.image_maker.specs.Packed.{packed_leaves}
 use Rattle.image_maker.specs.declared.laid_leaves.LaidLeaves.{LaidLeaves}
+use Rattle.tree_space.specs.Laid.{laid_weight}
 use Rattle.laid_index.specs.Indexed.{IsLaidIndex}
-use Rattle.laid_index.specs.Packing.{index_used}
+use Rattle.laid_index.specs.Packing.{index_used, index_weight}
 use Rattle.laid_index.specs.declared.laid_index.LaidIndex.{LaidIndex}
 use Rattle.made_image.specs.Around.{IsUnwrittenLeb, StandsPlain, made_master}
 use Rattle.made_image.specs.declared.filled_main.FilledMain.{FilledMain}
 use Rattle.whole_image.specs.Made.{HoldsTree, IsPlainTree}
+use Rattle.whole_image.proofs.IndexWeight.{full_nodes_weigh}
 
 -- what other laws give
 pub record TreeLaws : Type 0 where
@@ -88,7 +93,8 @@ module _ (geo : RawGeometry) (tree : Tree) (main : FilledMain) (state : VolumeSt
       (index : IsStoredIndex state.holds geo.fanout main.root placed) (key : map (λ (branch : Branch). branch.key) (take 1 (branches_of index.children)) ≡ main.root.key ∷ [])
       (said : leaves_in (plain placed) ≡ map leaf_of_placed nodes) (takes : TakesOfLebs (main_first geo + length main.leaves.items) main.index.items (all_nodes placed))
       (filled_there : AreFilled geo state.holds (main_first geo + length main.leaves.items) main.index.items) (room : length main.leaves.items + length main.index.items < main_lebs geo)
-      (highest : main.highest ≡ tree.highest) (blank : (lnum : ℕ) → lnum < main_first geo → state.holds lnum ≡ filled state.leb_size [])
+      (leaves_packed : length main.leaves.items ≡ length (packed_leaves geo.leb_size 0 (live_leaves tree))) (index_packed : length main.index.items ≡ length (index_used geo (length (live_leaves tree))))
+      (weight : shape_weight geo.fanout (plain placed) ≡ laid_weight geo tree) (highest : main.highest ≡ tree.highest) (blank : (lnum : ℕ) → lnum < main_first geo → state.holds lnum ≡ filled state.leb_size [])
       (open_there : (lnum : ℕ) → IsMasterLeb lnum → state.written lnum ≡ 0) where
     some : 0 < length main.index.items
     some =
@@ -118,6 +124,9 @@ module _ (geo : RawGeometry) (tree : Tree) (main : FilledMain) (state : VolumeSt
       };
       taken = record { leaves = leaves.filled.some; index = filled_there.some; some = some; room = room };
       are = leaves.are;
+      leaves_packed = leaves_packed;
+      index_packed = index_packed;
+      weight = weight;
       highest = highest;
       blank = blank;
       open_there = open_there;
@@ -150,7 +159,7 @@ module _ (laws : TreeLaws) (kept : LeavesStay) (geo : RawGeometry) (g : IsGeomet
     (leaves : List Leaf) (are : leaves ≡ laid.leaves.items) (at sqnum : ℕ) (at_is : at ≡ main_first geo + length laid.used.items) (made : LaidIndex) (indexed : IsLaidIndex geo v3.holds leaves at sqnum made)
     (third : (k : ℕ) → (k < at) ⊎ (at + length (index_used geo (length leaves)) ≤ k) → IsSameLeb v2 v3 k)
     (fits : length (index_used geo (length leaves)) + length laid.used.items + 1 ≤ main_lebs geo) (size2 : v2.leb_size ≡ geo.leb_size) (size3 : v3.leb_size ≡ geo.leb_size)
-    (highest : ℕ) (same : highest ≡ tree.highest) where
+    (highest : ℕ) (same : highest ≡ tree.highest) (packed : laid.used.items ≡ packed_leaves geo.leb_size 0 (live_leaves tree)) (some : 0 < length stand.0) where
   leaves_stay : AreLeavesLaid geo v3.holds tree stand.0 laid.used.items
   leaves_stay = kept geo v1.holds v3.holds tree stand.0 laid.used.items (λ k lt.
       (third (main_first geo + k) (inl (omega (arith, lt, at_is)))).holds ∙ (second (main_first geo + k) (no_master (main_first geo + k) (omega arith))).holds) stand.1
@@ -167,10 +176,20 @@ module _ (laws : TreeLaws) (kept : LeavesStay) (geo : RawGeometry) (g : IsGeomet
       let low : lnum < 3 = elim is [ inl one ↦ omega (arith, one) | inr two ↦ omega (arith, two) ] in
       (third lnum (inl (omega (arith, low, at_is)))).written ∙ (opened lnum is).open_there
 
+  -- there are as many leaves as the tree has
+  many_nodes : length stand.0 ≡ length (live_leaves tree)
+  many_nodes = sym (length-map stand.0 (λ (x : Placed). x.node)) ∙ ap length stand.1.are
+
+  many_leaves : length leaves ≡ length (live_leaves tree)
+  many_leaves = ap length (are ∙ stand.2) ∙ length-map stand.0 leaf_of_placed ∙ many_nodes
+
+  weighs : shape_weight geo.fanout (plain indexed.placed) ≡ laid_weight geo tree
+  weighs = indexed.weight ∙ ap (index_weight geo.fanout) many_leaves ∙ full_nodes_weigh geo.fanout (length (live_leaves tree)) g.fanout.0 (let e = many_nodes in omega (arith, e, some))
+
   pub all_laid : HoldsTree geo v3 tree (record { leaves = laid.used; index = made.used; root = made.root; highest = highest })
   all_laid =
       let many = ap length indexed.used in
       let T : ℕ → Type 0 = λ n. TakesOfLebs n made.used.items (all_nodes indexed.placed) in
       let F : ℕ → Type 0 = λ n. AreFilled geo v3.holds n made.used.items in
       holds_tree geo tree (record { leaves = laid.used; index = made.used; root = made.root; highest = highest }) v3 stand.0 indexed.placed laws proper can leaves_stay indexed.index indexed.key
-      (indexed.holds ∙ are ∙ stand.2) (subst T at_is indexed.takes) (subst F at_is indexed.filled) (omega (arith, many, fits)) same blank_before open_still
+      (indexed.holds ∙ are ∙ stand.2) (subst T at_is indexed.takes) (subst F at_is indexed.filled) (omega (arith, many, fits)) (ap length packed) (ap length indexed.used ∙ ap (λ n. length (index_used geo n)) many_leaves) weighs same blank_before open_still

@@ -3,3 +3,7 @@ pub mod Refusals
 pub mod Stored
 pub mod Filled
 pub mod Whole
+mod IndexWeight
+mod Counts
+mod Spaces
+mod Writable

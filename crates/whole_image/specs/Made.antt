@@ -6,18 +6,21 @@ use Rattle.ubifs_base.specs.Geometry.{leb_reserve}
 use Rattle.ubifs_base.specs.declared.raw_geometry.RawGeometry.{RawGeometry}
 use Rattle.ubi_volume.specs.Volume.{VolumeState, filled}
 use Rattle.small_areas.specs.Copies.{IsMasterLeb}
-use Rattle.index_media.specs.PlacedRow.{PlacedRow}
+use Rattle.index_tree.specs.Shape.{shape_weight}
+use Rattle.index_media.specs.PlacedRow.{PlacedRow, plain}
+use Rattle.fs_model.specs.declared.space.Space.{Space}
 use Rattle.fs_model.specs.Files.{Tree}
 use Rattle.fs_model.specs.Orphan.{nameless}
 use Rattle.fs_model.specs.Cover.{index_lebs, tree_bytes}
 use Rattle.leaf_map.specs.Kept.{Placed}
 use Rattle.sound_image.specs.Image.{Image}
 use Rattle.sound_image.specs.Sound.{SoundImage}
-use Rattle.sound_image.specs.Summary.{is_clean, tree_of_image}
+use Rattle.sound_image.specs.Summary.{is_clean, space_of_image, tree_of_image}
 use Rattle.tree_nodes.specs.Stored.{AreNodesOfTree, stored_tree}
 use Rattle.image_maker.specs.Leaves.{live_leaves}
 use Rattle.image_maker.specs.Packed.{packed_leaves}
 use Rattle.plain_backing.specs.Covering.{leaf_count}
+use Rattle.tree_space.specs.Laid.{laid_weight}
 use Rattle.laid_tree.specs.Standing.{is_plain}
 use Rattle.laid_index.specs.Packing.{index_used}
 use Rattle.made_image.specs.Around.{AreMainFilled, HoldsIndexed, IsMadeAround}
@@ -25,8 +28,14 @@ use Rattle.made_image.specs.declared.filled_main.FilledMain.{FilledMain}
 use Rattle.whole_image.specs.declared.make_fault.MakeFault.{MakeFault}
 use Rattle.whole_image.specs.declared.make_fault.MakeFault.TheVariants.{Memory, Unreserved, Nameless, Attribute, Full, Crowded}
 
+-- What a mount counts of an image of this tree: the LEBs of an index of full nodes, what that weighs, and all LEBs beside these and those of the leaves, which take LEBs as long as they fit, as empty.
+pub record IsMadeSpace (geo : RawGeometry) (tree : Tree) (space : Space) : Type 0 where
+  pub index : space.index ≡ length (index_used geo (length (live_leaves tree)))
+  pub empty : space.empty + length (packed_leaves geo.leb_size 0 (live_leaves tree)) + space.index ≡ main_lebs geo
+  pub weight : space.weight ≡ laid_weight geo tree
+
 -- The contents are the live nodes of this tree, an index of them, and what is laid around both, with this identifier. That is a sound image of this geometry. No
--- bud holds a node, and the tree is the one that is stored of this one.
+-- bud holds a node, the tree is the one that is stored of this one, and its space is that of such a tree.
 pub record IsMadeImage (contents : ℕ → List ℕ) (geo : RawGeometry) (uuid : List ℕ) (tree : Tree) : Type 0 where
   pub main : FilledMain
   pub placed : PlacedRow
@@ -39,6 +48,7 @@ pub record IsMadeImage (contents : ℕ → List ℕ) (geo : RawGeometry) (uuid :
   pub geometry : image.geo ≡ geo
   pub clean : IsTrue (is_clean image)
   pub files : tree_of_image image ≡ stored_tree tree
+  pub space : IsMadeSpace geo tree (space_of_image image)
 
 -- the bytes of main LEBs that are for leaves: of all but six, what is behind a reserve
 abbrev pub most_leaf_bytes : RawGeometry → ℕ
@@ -102,13 +112,17 @@ IsNotPlain tree Attribute = list_all is_plain tree.inodes ≡ false
 IsNotPlain tree (Full need room) = ⊥
 IsNotPlain tree (Crowded need room) = ⊥
 
--- The leaves of the tree and an index of them stand in the main LEBs, as this tells, and in front of these nothing is written.
+-- The leaves of the tree and an index of them stand in the main LEBs, as this tells, and in front of these nothing is written. Both take as few LEBs as they can in
+-- their order, and the index weighs what one of full nodes does.
 pub record HoldsTree (geo : RawGeometry) (state : VolumeState) (tree : Tree) (main : FilledMain) : Type 0 where
   pub placed : PlacedRow
   pub nodes : List Placed
   pub indexed : HoldsIndexed geo state.holds main placed nodes
   pub taken : AreMainFilled geo main
   pub are : AreNodesOfTree tree nodes
+  pub leaves_packed : length main.leaves.items ≡ length (packed_leaves geo.leb_size 0 (live_leaves tree))
+  pub index_packed : length main.index.items ≡ length (index_used geo (length (live_leaves tree)))
+  pub weight : shape_weight geo.fanout (plain placed) ≡ laid_weight geo tree
   pub highest : main.highest ≡ tree.highest
   pub blank : (lnum : ℕ) → lnum < main_first geo → state.holds lnum ≡ filled state.leb_size []
   pub open_there : (lnum : ℕ) → IsMasterLeb lnum → state.written lnum ≡ 0

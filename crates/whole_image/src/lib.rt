@@ -11,7 +11,9 @@ mod making;
 mod packing;
 mod tests_of_trees;
 
-pub use crate::law::{a_covered_tree_has_room, an_admitted_tree_fits};
+pub use crate::law::{
+    a_covered_tree_has_room, an_admitted_tree_fits, the_image_of_an_admitted_tree_may_be_written,
+};
 pub use crate::make_fault::MakeFault;
 pub use crate::making::{make_image, make_packed};
 pub use crate::packing::packed_geometry;

@@ -50,4 +50,5 @@ returns-clause-laid c =
     }) c.laid_leaves_stand.ensures.kept geo c.args.geometry.now.in_range c.args.tree.now c.requires.proper c.requires.plain v1 v2 v3 laid stand
     (c.laid_leaves_stand.ensures.unwritten geo c.args.tree.now v1.holds laid c.in_ok-leaves.ensures.laid)
     c.in_ok-open_masters.ensures.opened c.open_masters.ensures.others c.deref.result.now c.deref.ensures.value (c.main_first.result + c.len-lebs.result) _ (omega (arith, main, lebs))
-    c.in_ok-index.index c.in_ok-index.ensures.laid c.lay_index.ensures.others (omega (arith, need, same, test, mains, lebs, room)) size2 (c.lay_index.ensures.shape.leb_size ∙ size2) c.highest.result c.highest.ensures
+    c.in_ok-index.index c.in_ok-index.ensures.laid c.lay_index.ensures.others (omega (arith, need, same, test, mains, lebs, room)) size2 (c.lay_index.ensures.shape.leb_size ∙ size2) c.highest.result c.highest.ensures c.in_ok-leaves.ensures.laid.packed
+    (c.laid_leaves_are_in_order.ensures.some c.args.tree.now stand.0 c.requires.proper stand.1.are)
