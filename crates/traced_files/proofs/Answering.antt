@@ -16,7 +16,7 @@ use Rattle.fs_model.specs.declared.reply.Reply.TheVariants.{Refused}
 use Rattle.fs_model.specs.declared.trace.TraceLine.{TraceLine}
 use Rattle.fs_model.specs.Backing.{BackingState, ModeGoes, Rose}
 use Rattle.fs_model.specs.Files.{Files}
-use Rattle.fs_model.specs.Legal.{count_in, is_tight, pages_in, read_only_cause, sides_in}
+use Rattle.fs_model.specs.Legal.{Opening, Place, count_in, is_tight, pages_in, read_only_cause, sides_in}
 use Rattle.fs_model.specs.Operation.{Outcome, outcome_of}
 use Rattle.fs_model.specs.Orphan.{leaves_orphan, within_orphans}
 use Rattle.fs_model.specs.Outcome.{refuse}
@@ -29,7 +29,7 @@ use Rattle.vfs_ops.specs.Operations.{has_group, is_of_names}
 use Rattle.vfs_ops.specs.Replies.{IsAlikeOutcome}
 use Rattle.vfs_ops.specs.Steps.{IsTurnedDown, IsUnsynced, allowed, no_space_in}
 use Rattle.credited_files.specs.Calls.{needs_room}
-use Rattle.traced_files.specs.History.{IsRoomAsked}
+use Rattle.traced_files.specs.History.{IsRoomAsked, IsRoomTold}
 
 -- an outcome that was let through is the plain one
 within_done : (room limit : ℕ) (files : Files) (o : Outcome) (x : Reply × Files) → within_orphans room limit files o ≡ Ok x → o ≡ Ok x
@@ -167,6 +167,9 @@ tells_room reply = false
 
 pub asked_none : (line : TraceLine) → tells_room line.reply ≡ false → IsRoomAsked line
 asked_none line e sides told = absurd (false≢true (sym e ∙ ap tells_room told))
+
+pub told_none : (opening : Opening) (place : Place) (line : TraceLine) → tells_room line.reply ≡ false → IsRoomTold opening place line
+told_none opening place line e sides told = absurd (false≢true (sym e ∙ ap tells_room told))
 
 -- what may ask for room touches a page, or has a group
 pub asked_by : (grant : ℕ) (op : Op) → needs_room grant op ≡ true → (0 < pages_in op) ⊎ (has_group op ≡ true)

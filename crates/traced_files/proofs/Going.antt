@@ -27,7 +27,7 @@ use Rattle.fs_model.specs.Backing.{orphan_room}
 use Rattle.fs_model.specs.Cover.{tree_bytes}
 use Rattle.fs_model.specs.Files.{Files, Tree, Inodes, handle_at, inode_at, pages_of}
 use Rattle.fs_model.specs.Handles.{is_bad_slot, size_limit, tree_written}
-use Rattle.fs_model.specs.Legal.{IsRefusal as IsLegalRefusal, Opening, Place, count_in, next_number, pages_in, plain, read_only_cause, sides_in, whole_bytes}
+use Rattle.fs_model.specs.Legal.{IsRefusal as IsLegalRefusal, Opening, Place, count_in, least_room, most_asked, next_number, pages_in, plain, read_only_cause, sides_in, whole_bytes}
 use Rattle.fs_model.specs.Need.{need_of, truncation_need}
 use Rattle.fs_model.specs.Operation.{files_in, group_of, outcome_of, reply_in}
 use Rattle.fs_model.specs.Orphan.{leaves_orphan, nameless}
@@ -46,11 +46,11 @@ use Rattle.vfs_ops.specs.Replies.{holds_bytes, is_refusal}
 use Rattle.vfs_ops.specs.Writing.{BuffersReply}
 use Rattle.vfs_ops.specs.Steps.{IsAnswered, IsDone, IsLast, IsReady, IsRefusal, IsRefusedFor, IsTurnedDown, allowed_on, asked, no_space_in}
 use Rattle.traced_files.specs.Laws.{AreLaws}
-use Rattle.traced_files.specs.History.{IsRoomAsked, IsWithinWeight, files_after_line}
-use Rattle.traced_files.proofs.Answering.{IsChanging, IsCounted, IsDoneAlike, IsDowned, IsOverfull, alike_done, alike_refused, allowed_done, allowed_refused, asked_by, asked_none, counts_none, counts_one, downed, open_of, sides_told, tells_count, tells_room}
+use Rattle.traced_files.specs.History.{IsRoomAsked, IsRoomTold, IsWithinWeight, files_after_line, grown_weight}
+use Rattle.traced_files.proofs.Answering.{IsChanging, IsCounted, IsDoneAlike, IsDowned, IsOverfull, alike_done, alike_refused, allowed_done, allowed_refused, asked_by, asked_none, counts_none, counts_one, downed, open_of, sides_told, tells_count, tells_room, told_none}
 use Rattle.traced_files.proofs.Lines.{IsLine}
 use Rattle.traced_files.proofs.Replaying.{done_after, refused_after}
-use Rattle.traced_files.proofs.Sides.{IsFull, are_sides, whole_most}
+use Rattle.traced_files.proofs.Sides.{IsFull, are_sides, room_told, whole_most}
 
 pub alike_then : (a b c : Files) → IsAlike a b → IsAlike b c → IsAlike a c
 alike_then a b c h k = record {
@@ -92,6 +92,7 @@ pub record WasEntered (opening : Opening) (place : Place) (s : Stepped) : Type 0
   pub sound : IsSound after
   pub refused : s.new.refused ≡ s.old.refused ++ sides_in s.line
   pub asked : IsRoomAsked s.line
+  pub room : IsRoomTold opening place s.line
   pub counts : IsCounted s.old.backing.faults s.new.backing.faults (count_in s.line)
 
 -- how many inodes have no name
@@ -122,6 +123,10 @@ no_room_early : (refusal : Refusal) → is_late refusal ≡ false → tells_room
 no_room_early (Enospc space) e = absurd cc
 no_room_early refusal e = refl
 
+-- the volume failed in no call that left the store as one that can be written
+abbrev pub IsUnfailed : Reply → Type 0
+IsUnfailed reply = (count : ℕ) → reply ≡ Refused (Eio count) → ⊥
+
 -- where callers can't tell a place's files from the present ones, and its line has the next number
 pub record IsReached (opening : Opening) (place : Place) (s : Stepped) : Type 0 where
   pub sound : IsSound place.files
@@ -131,7 +136,7 @@ pub record IsReached (opening : Opening) (place : Place) (s : Stepped) : Type 0 
   pub main : s.old.backing.space.main ≡ opening.space.main
   pub limit : s.old.backing.orphan_limit ≡ opening.orphan_limit
   pub orphans : opening.orphan_room ≤ orphan_room s.old.backing + place.orphans
-  pub within : s.old.backing.mode ≡ ReadWrite → IsWithinWeight opening (place.before ++ s.line ∷ []) s.new.backing s.new.kept
+  pub within : s.old.backing.mode ≡ ReadWrite → IsUnfailed s.line.reply → IsWithinWeight opening (place.before ++ s.line ∷ []) s.new.backing s.new.kept
 
 entered_done : (opening : Opening) (place : Place) (s : Stepped) → AreLaws → IsMadeCall opening s → IsReached opening place s → read_only_cause s.old.backing.mode s.line.op ≡ None
     → IsDone (allowed_on s.old.backing (present_in s.old) s.line.caller s.line.now s.line.op) (present_in s.new) s.line.reply → s.new.refused ≡ s.old.refused → WasEntered opening place s
@@ -153,6 +158,7 @@ entered_done opening place s laws h r closed done kept =
       sound = subst (λ (o : Outcome). IsSound (files_in f o)) here.done (laws.sound f c n op r.sound h.moment h.call).sound;
       refused = kept ∙ sym (append-nil s.old.refused) ∙ ap (λ (x : List NoSpace). s.old.refused ++ x) (sym (sides_told s.line ∙ no_sides s.line.reply no));
       asked = asked_none s.line (no_room s.line.reply no);
+      room = told_none opening place s.line (no_room s.line.reply no);
       counts = inl (counts_none s.line (no_count s.line.reply no));
     }
 
@@ -160,6 +166,7 @@ entered_done opening place s laws h r closed done kept =
 pub record IsTold (opening : Opening) (place : Place) (s : Stepped) : Type 0 where
   pub one : IsLine opening s.old.backing.mode place s.line place.files ⊎ IsLine opening s.new.backing.mode place s.line place.files
   pub asked : IsRoomAsked s.line
+  pub room : IsRoomTold opening place s.line
   pub counts : IsCounted s.old.backing.faults s.new.backing.faults (count_in s.line)
 
 told_as : (opening : Opening) (place : Place) (s : Stepped) (mode : Mode) (refusal : Refusal) → s.line.number ≡ next_number place.before s.line.caller → s.line.reply ≡ Refused refusal → IsLegalRefusal opening place mode s.line refusal → IsLine opening mode place s.line place.files
@@ -179,6 +186,7 @@ told_plain opening place s refusal laws h r closed told there =
     record {
       one = inl (record { number = r.number; answer = inl (record { done = closed; told = told ∙ sym (ap reply_in here); left = sym (ap (files_in f) here) }) });
       asked = asked_none s.line (ap tells_room told ∙ no_room_early refusal early);
+      room = told_none opening place s.line (ap tells_room told ∙ no_room_early refusal early);
       counts = inl (counts_none s.line (ap tells_count told ∙ no_count_early refusal early));
     }
 
@@ -198,6 +206,7 @@ told_overfull opening place s refusal laws h r told full =
     record {
       one = inl (told_as opening place s s.old.backing.mode (Enfile Orphans s.old.backing.orphan_limit) r.number refusal_is (((full.found.0, here.after), here.done), orphan, omega (arith, r.orphans, full.none), r.limit));
       asked = asked_none s.line (ap tells_room refusal_is);
+      room = told_none opening place s.line (ap tells_room refusal_is);
       counts = inl (counts_none s.line (ap tells_count refusal_is));
     }
 
@@ -268,6 +277,13 @@ asks_room s h changing sides told noted done =
     by (Write slot offs len byte) changing buffers there = short slot offs len byte (nat_lt s.grant (length (pages_of offs len))) refl buffers there
     by op changing buffers there = refl
 
+-- want of room is no fault, and tells its sides alone
+no_fault : (sides : NoSpace) (count : ℕ) → Refused (Enospc sides) ≡ Refused (Eio count) → ⊥
+no_fault sides count e = absurd cc
+
+same_sides : (sides other : NoSpace) → Refused (Enospc sides) ≡ Refused (Enospc other) → sides ≡ other
+same_sides sides other e = cc
+
 -- refused for want of room
 told_full : (opening : Opening) (place : Place) (s : Stepped) (sides : NoSpace) → AreLaws → IsMadeCall opening s → IsReached opening place s → read_only_cause s.old.backing.mode s.line.op ≡ None → s.line.reply ≡ Refused (Enospc sides)
     → s.new.refused ≡ s.old.refused ++ no_space_in s.line.reply → IsAlike (present_in s.old) (present_in s.new) → (done : Reply × Files) × (allowed_on s.old.backing (present_in s.old) s.line.caller s.line.now s.line.op ≡ Ok done)
@@ -289,7 +305,7 @@ told_full opening place s sides laws h r closed told noted same done why =
     let seen : IsAlike f (present_in s.new) = alike_then f (present_in s.old) (present_in s.new) r.same same in
     let whole : tree_bytes s.new.backing.tree ≤ whole_bytes f.tree =
     whole_most s.new.backing.tree f.tree h.after.kept_fits.proper (seen.inodes ∙ ap (λ (t : Tree). t.inodes) clean) (seen.entries ∙ ap (λ (t : Tree). t.entries) clean) (seen.blocks ∙ ap (λ (t : Tree). trimmed_blocks t.blocks) clean) in
-    let within = r.within (open_of s.old.backing.mode op closed why.0) in
+    let within = r.within (open_of s.old.backing.mode op closed why.0) (λ count fault. no_fault sides count (sym told ∙ fault)) in
     let used = h.used in
     let issued = h.step.issued in
     let left = h.step.answered.1 in
@@ -314,6 +330,9 @@ told_full opening place s sides laws h r closed told noted same done why =
     record {
       one = inl (told_as opening place s s.old.backing.mode (Enospc sides) r.number told (((done.0.0, here.after), here.done), are_sides opening place s.line sides s.new.backing need full));
       asked = λ other is. asked_by s.grant op (asks_room s h why.0 sides told noted done);
+      room = λ other is.
+          subst (λ (x : NoSpace). least_room opening (grown_weight opening (place.before ++ s.line ∷ [])) (most_asked opening place s.line) ≤ x.room) (same_sides sides other (sym told ∙ is))
+          (room_told opening place s.line sides s.new.backing need full);
       counts = inl (counts_none s.line (ap tells_count told));
     }
 
@@ -325,16 +344,19 @@ told_down opening place s (Enospc sides) laws h r closed told noted same last wh
 told_down opening place s (Erofs cause) laws h r closed told noted same last why = record {
   one = inr (told_as opening place s s.new.backing.mode (Erofs cause) r.number told (ap (λ (m : Mode). read_only_cause m s.line.op) why.0 ∙ why.1));
   asked = asked_none s.line (ap tells_room told);
+  room = told_none opening place s.line (ap tells_room told);
   counts = inl (counts_none s.line (ap tells_count told));
 }
 told_down opening place s (Eio count) laws h r closed told noted same last why = record {
   one = inr (told_as opening place s s.new.backing.mode (Eio count) r.number told why.2);
   asked = asked_none s.line (ap tells_room told);
+  room = told_none opening place s.line (ap tells_room told);
   counts = inr (count, counts_one s.line count told, subst (λ (x : ℕ). Rose s.old.backing.faults x) (sym why.1) why.0, omega (arith, why.1));
 }
 told_down opening place s Enomem laws h r closed told noted same last why = record {
   one = inl (told_as opening place s s.old.backing.mode Enomem r.number told tt);
   asked = asked_none s.line (ap tells_room told);
+  room = told_none opening place s.line (ap tells_room told);
   counts = inl (counts_none s.line (ap tells_count told));
 }
 told_down opening place s refusal laws h r closed told noted same last why = absurd why
@@ -351,6 +373,7 @@ entered_refused opening place s laws h r refused noted =
       sound = r.sound;
       refused = noted ∙ ap (λ (x : List NoSpace). s.old.refused ++ x) (sym (sides_told s.line));
       asked = told.asked;
+      room = told.room;
       counts = told.counts;
     }
   where
@@ -369,6 +392,7 @@ entered_refused opening place s laws h r refused noted =
     by (Some cause) closed why = record {
       one = inl (told_as opening place s s.old.backing.mode (Erofs cause) r.number (refused.told ∙ ap Refused why) closed);
       asked = asked_none s.line (ap tells_room (refused.told ∙ ap Refused why));
+      room = told_none opening place s.line (ap tells_room (refused.told ∙ ap Refused why));
       counts = inl (counts_none s.line (ap tells_count (refused.told ∙ ap Refused why)));
     }
 
@@ -401,6 +425,7 @@ entered_short opening place s laws h r bytes = by h.step.answered.0
           sound = r.sound;
           refused = done.2 ∙ sym (append-nil s.old.refused) ∙ ap (λ (x : List NoSpace). s.old.refused ++ x) (sym (sides_told (record s.line { reply = Refused Enomem })));
           asked = asked_none (record s.line { reply = Refused Enomem }) refl;
+          room = told_none opening place (record s.line { reply = Refused Enomem }) refl;
           counts = inl (counts_none (record s.line { reply = Refused Enomem }) refl);
         }
     by (inr refused) = let told = refused.0.told in absurd cc

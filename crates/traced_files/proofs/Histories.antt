@@ -4,10 +4,9 @@ use Rattle.std.specs.Prelude.{max, if◌then◌else◌}
 use Rattle.std.specs.List.{flat_map}
 use Rattle.std.proofs.lemmas.Bool.{false≢true}
 use Rattle.std.proofs.lemmas.Grind.{flat_map-append}
-use Rattle.std.proofs.lemmas.List.{append-nil}
+use Rattle.std.proofs.lemmas.List.{append-nil, length-append}
 use Rattle.std.proofs.lemmas.List.Concat.{flat_map-cons}
 use Rattle.std.proofs.lemmas.List.Elements.{All-push}
-use Rattle.std.proofs.lemmas.List.Sums.{sum_by-append, sum_by-cons}
 use Rattle.ubifs_base.specs.declared.raw_geometry.RawGeometry.{RawGeometry}
 use Rattle.fs_model.specs.declared.backing_answers.Mode.TheVariants.{ReadWrite}
 use Rattle.fs_model.specs.declared.backing_answers.StoreFault.TheVariants.{Memory, Volume, ReadOnly as IsReadOnly}
@@ -19,7 +18,7 @@ use Rattle.fs_model.specs.declared.trace.TraceLine.{TraceLine}
 use Rattle.fs_model.specs.Backing.{BackingState, ModeGoes, next_orphans, orphan_room}
 use Rattle.fs_model.specs.Cover.{index_lebs}
 use Rattle.fs_model.specs.Files.{Files}
-use Rattle.fs_model.specs.Legal.{Opening, Place, behind, count_in, most_weight, next_number, pages_in, sides_in}
+use Rattle.fs_model.specs.Legal.{Opening, Place, behind, count_in, least_room, most_asked, next_number, sides_in}
 use Rattle.buffered_files.specs.Calls.{full_weight}
 use Rattle.vfs_ops.specs.declared.event.Event.{Event}
 use Rattle.vfs_ops.specs.declared.event.Event.TheVariants.{Put}
@@ -30,42 +29,34 @@ use Rattle.vfs_ops.specs.Operations.{nodes_asked}
 use Rattle.vfs_ops.specs.FilesState.{FilesState, present_in}
 use Rattle.vfs_ops.specs.Replies.{holds_bytes}
 use Rattle.traced_files.specs.Laws.{AreLaws}
-use Rattle.traced_files.specs.History.{IsRoomAsked, IsHistory, IsWithinWeight, Rise, files_after_line, is_flushed}
+use Rattle.traced_files.specs.History.{AreRoomsTold, IsRoomAsked, IsRoomTold, IsHistory, IsWithinWeight, Rise, files_after_line, files_behind, grown_weight, is_flushed, place_after}
 use Rattle.traced_files.specs.Replies.{IsToldAs}
 use Rattle.traced_files.proofs.Answering.{IsCounted}
 use Rattle.traced_files.proofs.Counts.{mode_after, mode_turns, rise_later, rise_on}
 use Rattle.traced_files.proofs.Flushing.{flushed_on, line_flushes, work_flushes}
-use Rattle.traced_files.proofs.Going.{IsMadeCall, IsReached, Stepped, WasEntered, alike_then, entered, entered_short, orphan_same, with_reply}
+use Rattle.traced_files.proofs.Going.{IsMadeCall, IsReached, IsUnfailed, Stepped, WasEntered, alike_then, entered, entered_short, orphan_same, with_reply}
 use Rattle.traced_files.proofs.Lines.{before_last, leads_on, leads_stay}
 use Rattle.traced_files.proofs.Replaying.{behind_on}
 use Rattle.traced_files.proofs.Sides.{lebs_mono}
-use Rattle.traced_files.proofs.Weighing.{IsUnfailed, call_grows, grown_on, unfailed}
-
--- the lines may add as much more as one line does
-most_on : (opening : Opening) (lines : List TraceLine) (line : TraceLine) → most_weight opening (lines ++ line ∷ []) ≡ most_weight opening lines + (5 + 2 * pages_in line.op)
-most_on opening lines line =
-    let f : TraceLine → ℕ = λ l. 5 + 2 * pages_in l.op in
-    let a = sum_by-append f lines (line ∷ []) in
-    let b = sum_by-cons f line [] in
-    omega (arith, a, b)
+use Rattle.traced_files.proofs.Weighing.{asked_grows, call_grows, grown_on, unfailed}
 
 -- an index that grows with its weight stays below what a greater weight allows
 index_on : (first old new lebs greatest : ℕ) → old ≤ max first (2 * lebs) → lebs ≤ greatest → (step : ℕ) → step ≤ greatest → new ≤ max old (2 * step) → new ≤ max first (2 * greatest)
 index_on first old new lebs greatest was le step few is = omega (arith, was, le, few, is)
 
-within_on : (opening : Opening) (noted : List NoSpace) (lines : List TraceLine) (s : Stepped) → AreLaws → IsMadeCall opening s → IsHistory opening noted lines s.old → IsWithinWeight opening lines s.old.backing s.old.kept → IsWithinWeight opening (lines ++ s.line ∷ []) s.new.backing s.new.kept
-within_on opening noted lines s laws h history within =
-    let most = most_on opening lines s.line in
-    let grows = laws.few s.old s.new s.line.caller s.line.now s.grant s.line.op _ h.ready.sound h.step in
-    let short = laws.short (present_in s.old) s.line.caller s.line.now s.line.op in
+within_on : (opening : Opening) (noted : List NoSpace) (lines : List TraceLine) (s : Stepped) → AreLaws → IsMadeCall opening s → IsUnfailed s.line.reply → IsHistory opening noted lines s.old → IsWithinWeight opening lines s.old.backing s.old.kept → IsWithinWeight opening (lines ++ s.line ∷ []) s.new.backing s.new.kept
+within_on opening noted lines s laws h whole history within =
+    let more = grown_on opening lines s.line in
+    let grows = call_grows opening s laws h whole in
+    let short = asked_grows (present_in s.old) s.line.caller s.line.now s.line.op laws in
     let weight = within.weight in
-    let geo : index_lebs s.old.backing.geometry (s.old.backing.space.weight + (2 * length s.old.kept.pages.dirty + nodes_asked (present_in s.old) s.line.caller s.line.now s.line.op)) ≤ index_lebs opening.geometry (most_weight opening (lines ++ s.line ∷ [])) =
-    subst (λ (g : RawGeometry). index_lebs g (s.old.backing.space.weight + (2 * length s.old.kept.pages.dirty + nodes_asked (present_in s.old) s.line.caller s.line.now s.line.op)) ≤ index_lebs opening.geometry (most_weight opening (lines ++ s.line ∷ []))) (sym history.geometry)
-    (lebs_mono opening.geometry (s.old.backing.space.weight + (2 * length s.old.kept.pages.dirty + nodes_asked (present_in s.old) s.line.caller s.line.now s.line.op)) (most_weight opening (lines ++ s.line ∷ [])) (omega (arith, most, short, weight))) in
+    let geo : index_lebs s.old.backing.geometry (s.old.backing.space.weight + (2 * length s.old.kept.pages.dirty + nodes_asked (present_in s.old) s.line.caller s.line.now s.line.op)) ≤ index_lebs opening.geometry (grown_weight opening (lines ++ s.line ∷ [])) =
+    subst (λ (g : RawGeometry). index_lebs g (s.old.backing.space.weight + (2 * length s.old.kept.pages.dirty + nodes_asked (present_in s.old) s.line.caller s.line.now s.line.op)) ≤ index_lebs opening.geometry (grown_weight opening (lines ++ s.line ∷ []))) (sym history.geometry)
+    (lebs_mono opening.geometry (s.old.backing.space.weight + (2 * length s.old.kept.pages.dirty + nodes_asked (present_in s.old) s.line.caller s.line.now s.line.op)) (grown_weight opening (lines ++ s.line ∷ [])) (omega (arith, more, short, weight))) in
     record {
-      weight = omega (arith, most, grows, weight);
-      index = index_on opening.space.index s.old.backing.space.index s.new.backing.space.index (index_lebs opening.geometry (most_weight opening lines)) (index_lebs opening.geometry (most_weight opening (lines ++ s.line ∷ []))) within.index
-          (lebs_mono opening.geometry (most_weight opening lines) (most_weight opening (lines ++ s.line ∷ [])) (omega (arith, most)))
+      weight = omega (arith, more, grows, weight);
+      index = index_on opening.space.index s.old.backing.space.index s.new.backing.space.index (index_lebs opening.geometry (grown_weight opening lines)) (index_lebs opening.geometry (grown_weight opening (lines ++ s.line ∷ []))) within.index
+          (lebs_mono opening.geometry (grown_weight opening lines) (grown_weight opening (lines ++ s.line ∷ [])) (omega (arith, more)))
           (index_lebs s.old.backing.geometry (s.old.backing.space.weight + (2 * length s.old.kept.pages.dirty + nodes_asked (present_in s.old) s.line.caller s.line.now s.line.op))) geo h.step.goes.index;
     }
 
@@ -90,13 +81,46 @@ reached_by opening noted lines s laws h history number =
       main = history.main;
       limit = history.limit;
       orphans = history.orphans;
-      within = λ is. subst (λ (xs : List TraceLine). IsWithinWeight opening (xs ++ s.line ∷ []) s.new.backing s.new.kept) (sym before) (within_on opening noted lines s laws h history (history.weight is));
+      within = λ is whole. subst (λ (xs : List TraceLine). IsWithinWeight opening (xs ++ s.line ∷ []) s.new.backing s.new.kept) (sym before) (within_on opening noted lines s laws h whole history (history.weight is));
     }
+
+-- one of some lines is the last, or stands before it
+split_last : (xs : List TraceLine) (x : TraceLine) (before : List TraceLine) (y : TraceLine) (rest : List TraceLine) → xs ++ x ∷ [] ≡ before ++ y ∷ rest → ((xs ≡ before) × (x ≡ y)) ⊎ ((more : List TraceLine) × (xs ≡ before ++ y ∷ more))
+split_last [] x [] y rest e = let f : x ∷ [] ≡ y ∷ rest = e in let same : x ≡ y = cc in inl (refl, same)
+split_last [] x (b ∷ before) y rest e =
+    let f : x ∷ [] ≡ b ∷ (before ++ y ∷ rest) = e in
+    let long = ap length f in
+    let parts = length-append before (y ∷ rest) in
+    absurd (omega (arith, long, parts))
+split_last (z ∷ xs) x [] y rest e = let f : z ∷ (xs ++ x ∷ []) ≡ y ∷ rest = e in let same : z ≡ y = cc in inr (xs, ap (λ (w : TraceLine). w ∷ xs) same)
+split_last (z ∷ xs) x (b ∷ before) y rest e =
+    let f : z ∷ (xs ++ x ∷ []) ≡ b ∷ (before ++ y ∷ rest) = e in
+    let same : z ≡ b = cc in
+    let later : xs ++ x ∷ [] ≡ before ++ y ∷ rest = cc in
+    by same (split_last xs x before y rest later)
+  where
+    by : z ≡ b → ((xs ≡ before) × (x ≡ y)) ⊎ ((more : List TraceLine) × (xs ≡ before ++ y ∷ more)) → ((z ∷ xs ≡ b ∷ before) × (x ≡ y)) ⊎ ((more : List TraceLine) × (z ∷ xs ≡ b ∷ (before ++ y ∷ more)))
+    by same (inl last) = inl (ap (λ (w : TraceLine). w ∷ xs) same ∙ ap (λ (ws : List TraceLine). b ∷ ws) last.0, last.1)
+    by same (inr found) = inr (found.0, ap (λ (w : TraceLine). w ∷ xs) same ∙ ap (λ (ws : List TraceLine). b ∷ ws) found.1)
+
+-- a line more tells its room, as the others do
+rooms_on : (opening : Opening) (lines : List TraceLine) (line : TraceLine) → AreRoomsTold opening lines → IsRoomTold opening (place_after opening lines) line → AreRoomsTold opening (lines ++ line ∷ [])
+rooms_on opening lines line each one before other rest e = by (split_last lines line before other rest e)
+  where
+    by : ((lines ≡ before) × (line ≡ other)) ⊎ ((more : List TraceLine) × (lines ≡ before ++ other ∷ more)) → IsRoomTold opening (place_after opening before) other
+    by (inl last) = subst (λ (x : TraceLine). IsRoomTold opening (place_after opening before) x) last.1 (subst (λ (xs : List TraceLine). IsRoomTold opening (place_after opening xs) line) last.0 one)
+    by (inr found) = each before other found.0 found.1
+
+-- a place is told of by its lines and files
+room_behind : (opening : Opening) (lines : List TraceLine) (place : Place) (line : TraceLine) → place.before ≡ lines → place.files ≡ files_behind opening.files lines → IsRoomTold opening place line → IsRoomTold opening (place_after opening lines) line
+room_behind opening lines place line before files told sides is =
+    let P : List TraceLine → Files → Type 0 = λ xs f. least_room opening (grown_weight opening (xs ++ line ∷ [])) (most_asked opening (record (place_after opening lines) { files = f }) line) ≤ sides.room in
+    subst (λ (f : Files). P lines f) files (subst (λ (xs : List TraceLine). P xs place.files) before (told sides is))
 
 -- a line weighs the same, whatever is told of its answer
 within_told : (opening : Opening) (lines : List TraceLine) (s : Stepped) (reply : Reply) → IsWithinWeight opening (lines ++ s.line ∷ []) s.new.backing s.new.kept → IsWithinWeight opening (lines ++ (record s.line { reply = reply }) ∷ []) s.new.backing s.new.kept
 within_told opening lines s reply within =
-    let same : most_weight opening (lines ++ s.line ∷ []) ≡ most_weight opening (lines ++ (record s.line { reply = reply }) ∷ []) = most_on opening lines s.line ∙ sym (most_on opening lines (record s.line { reply = reply })) in
+    let same : grown_weight opening (lines ++ s.line ∷ []) ≡ grown_weight opening (lines ++ (record s.line { reply = reply }) ∷ []) = grown_on opening lines s.line ∙ sym (grown_on opening lines (record s.line { reply = reply })) in
     let weight = within.weight in
     record {
       weight = omega (arith, weight, same);
@@ -121,18 +145,14 @@ call_goes_with opening noted lines s reply laws h history entry says whole =
       mode = mode_after opening s.old.backing s.new.backing history.mode goes.mode was faults;
       refused = entry.refused ∙ ap (λ (x : List NoSpace). x ++ sides_in line) history.refused ∙ append_assoc noted (flat_map sides_in lines) (sides_in line) ∙ ap (λ (x : List NoSpace). noted ++ x) (sym (told_on sides_in lines line));
       asked = All-push IsRoomAsked lines line history.asked entry.asked;
+      rooms = rooms_on opening lines line history.rooms (room_behind opening lines last line (before_last opening s.old.backing.mode lines last history.leads) history.replayed entry.room);
       counts = counted entry.counts;
       faults = omega (arith, was, faults);
       geometry = goes.geometry ∙ history.geometry;
       main = h.main ∙ history.main;
       limit = goes.orphan_limit ∙ history.limit;
       orphans = roomy orphan h.step.orphans goes.orphan_limit history.orphans;
-      weight = λ is. within_told opening lines s reply (within_on opening noted lines s laws h history (history.weight (open_before s.old.backing s.new.backing goes.mode is)));
-      grown = λ is.
-          let more = grown_on opening lines line in
-          let grows = call_grows opening s laws h (whole is) in
-          let was = history.grown (open_before s.old.backing s.new.backing goes.mode is) in
-          omega (arith, more, grows, was);
+      weight = λ is. within_told opening lines s reply (within_on opening noted lines s laws h (whole is) history (history.weight (open_before s.old.backing s.new.backing goes.mode is)));
       flushed = flushes;
     }
   where
@@ -223,6 +243,7 @@ background_goes_on opening noted lines old new event outcome h main history =
       mode = mode_after opening old.backing new.backing history.mode h.goes.mode was faults;
       refused = h.refused ∙ history.refused;
       asked = history.asked;
+      rooms = history.rooms;
       counts = rise_later opening.faults (flat_map count_in lines) old.backing.faults new.backing.faults history.counts faults;
       faults = omega (arith, was, faults);
       geometry = h.goes.geometry ∙ history.geometry;
@@ -230,11 +251,6 @@ background_goes_on opening noted lines old new event outcome h main history =
       limit = limit ∙ history.limit;
       orphans = omega (arith, few, limit, room);
       weight = heavy;
-      grown = λ is.
-          let was = history.grown (open_before old.backing new.backing h.goes.mode is) in
-          let grows = h.weighed in
-          let none = added_none old new event outcome h is in
-          omega (arith, was, grows, none);
       flushed = λ is behind. work_flushes old new event outcome h.made (history.flushed (open_before old.backing new.backing h.goes.mode is) behind);
     }
   where
@@ -245,9 +261,9 @@ background_goes_on opening noted lines old new event outcome h main history =
         let grows = h.weighed in
         let none = added_none old new event outcome h is in
         let index = put_index old new event outcome h is in
-        let lebs : index_lebs old.backing.geometry (full_weight old.backing old.kept) ≤ index_lebs opening.geometry (most_weight opening lines) =
-        subst (λ (g : RawGeometry). index_lebs g (full_weight old.backing old.kept) ≤ index_lebs opening.geometry (most_weight opening lines)) (sym history.geometry) (lebs_mono opening.geometry (full_weight old.backing old.kept) (most_weight opening lines) weight) in
+        let lebs : index_lebs old.backing.geometry (full_weight old.backing old.kept) ≤ index_lebs opening.geometry (grown_weight opening lines) =
+        subst (λ (g : RawGeometry). index_lebs g (full_weight old.backing old.kept) ≤ index_lebs opening.geometry (grown_weight opening lines)) (sym history.geometry) (lebs_mono opening.geometry (full_weight old.backing old.kept) (grown_weight opening lines) weight) in
         record {
           weight = omega (arith, grows, none, weight);
-          index = index_on opening.space.index old.backing.space.index new.backing.space.index (index_lebs opening.geometry (most_weight opening lines)) (index_lebs opening.geometry (most_weight opening lines)) within.index (omega arith) (index_lebs old.backing.geometry (full_weight old.backing old.kept)) lebs index;
+          index = index_on opening.space.index old.backing.space.index new.backing.space.index (index_lebs opening.geometry (grown_weight opening lines)) (index_lebs opening.geometry (grown_weight opening lines)) within.index (omega arith) (index_lebs old.backing.geometry (full_weight old.backing old.kept)) lebs index;
         }

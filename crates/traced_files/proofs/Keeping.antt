@@ -78,6 +78,7 @@ history_credits opening noted lines old new only h = subst (λ (x : FilesState).
   mode = h.mode;
   refused = h.refused;
   asked = h.asked;
+  rooms = h.rooms;
   counts = h.counts;
   faults = h.faults;
   geometry = h.geometry;
@@ -85,7 +86,6 @@ history_credits opening noted lines old new only h = subst (λ (x : FilesState).
   limit = h.limit;
   orphans = h.orphans;
   weight = λ writes. let w = h.weight writes in record { weight = w.weight; index = w.index };
-  grown = h.grown;
   flushed = h.flushed;
 })
 

@@ -3,7 +3,7 @@ use Rattle.std.proofs.Common.{◌≡◌, inl, inr, ℕ, ◌<◌, List, [], ◌�
 use Rattle.std.specs.Prelude.{drop}
 use Rattle.std.specs.List.{flat_map}
 use Rattle.std.proofs.lemmas.Bool.{false≢true}
-use Rattle.std.proofs.lemmas.List.{append-nil}
+use Rattle.std.proofs.lemmas.List.{append-nil, length-append}
 use Rattle.std.proofs.lemmas.List.Elements.{All-nil}
 use Rattle.ubifs_base.specs.Faults.{Rose}
 use Rattle.fs_model.specs.declared.refusal.NoSpace.{NoSpace}
@@ -53,6 +53,12 @@ history_is_legal same opening noted lines now outlook h sure below = record {
 alike_same : (files : Files) → IsAlike files files
 alike_same files = record { inodes = refl; blocks = refl; entries = refl; highest = refl; handles = refl; sizes = λ ino inode found file. refl }
 
+no_line : (before : List TraceLine) (line : TraceLine) (rest : List TraceLine) → [] ≡ before ++ line ∷ rest → ⊥
+no_line before line rest none =
+    let long = ap length none in
+    let parts = length-append before (line ∷ rest) in
+    omega (arith, long, parts)
+
 -- the history of no line
 pub history_opens : (state : FilesState) (outlook : Outlook) (callers : ℕ) → IsSound (present_in state) → IsHistory (opening_of state outlook callers) state.refused [] state
 history_opens state outlook callers sound = record {
@@ -64,6 +70,7 @@ history_opens state outlook callers sound = record {
   mode = inl refl;
   refused = sym (append-nil state.refused);
   asked = All-nil IsRoomAsked;
+  rooms = λ before line rest none. absurd (no_line before line rest none);
   counts = omega arith;
   faults = omega arith;
   geometry = refl;
@@ -71,6 +78,5 @@ history_opens state outlook callers sound = record {
   limit = refl;
   orphans = omega arith;
   weight = λ is. record { weight = omega arith; index = omega arith };
-  grown = λ is. omega arith;
   flushed = λ is behind. absurd (false≢true behind);
 }

@@ -24,7 +24,7 @@ use Rattle.vfs_ops.specs.Replies.{is_refusal}
 use Rattle.vfs_ops.specs.Steps.{is_write}
 use Rattle.traced_files.specs.History.{index_growth_by, grown_weight}
 use Rattle.traced_files.specs.Laws.{AreLaws}
-use Rattle.traced_files.proofs.Going.{IsMadeCall, Stepped, WasEntered}
+use Rattle.traced_files.proofs.Going.{IsMadeCall, IsUnfailed, Stepped, WasEntered}
 use Rattle.traced_files.proofs.Lines.{IsLine}
 
 -- one line more weighs what it adds
@@ -46,10 +46,6 @@ none_asked files caller now (Readlink path) e = (refl, refl)
 none_asked files caller now (Fsync slot) e = (refl, refl)
 none_asked files caller now Flush e = (refl, refl)
 none_asked files caller now op e = absurd (false≢true (sym e))
-
--- the volume failed in no call that left the store as one that can be written
-abbrev pub IsUnfailed : Reply → Type 0
-IsUnfailed reply = (count : ℕ) → reply ≡ Refused (Eio count) → ⊥
 
 none_added : (done failed : ℕ) (reply : Reply) → done ≡ 0 → IsUnfailed reply → added_by done failed reply ≡ 0
 none_added done failed (Refused (Eio count)) none whole = absurd (whole count refl)
@@ -100,3 +96,14 @@ call_grows opening s laws h whole = by (is_write s.line.op || has_group s.line.o
         let added = none_added (2 * pages_in s.line.op + nodes_asked (present_in s.old) s.line.caller s.line.now s.line.op) (max 2 (nodes_asked (present_in s.old) s.line.caller s.line.now s.line.op)) s.line.reply done whole in
         let weighed = h.step.weighed in
         omega (arith, weighed, added)
+
+-- nor does a group ask for more nodes
+pub asked_grows : (files : Files) (caller now : ℕ) (op : Op) → AreLaws → nodes_asked files caller now op ≤ index_growth_by op
+asked_grows files caller now op laws = by (is_write op || has_group op) refl
+  where
+    by : (b : Bool) → (is_write op || has_group op) ≡ b → nodes_asked files caller now op ≤ index_growth_by op
+    by true e =
+        let short = laws.short files caller now op in
+        let is : index_growth_by op ≡ 5 + 2 * pages_in op = ap (λ (b : Bool). if b then 5 + 2 * pages_in op else 0) e in
+        omega (arith, short, is)
+    by false e = let none = (none_asked files caller now op e).0 in omega (arith, none)

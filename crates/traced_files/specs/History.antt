@@ -14,7 +14,7 @@ use Rattle.fs_model.specs.declared.trace.TraceLine.{TraceLine}
 use Rattle.fs_model.specs.Backing.{BackingState, Outlook, Rose, orphan_room}
 use Rattle.fs_model.specs.Cover.{index_lebs}
 use Rattle.fs_model.specs.Files.{Files}
-use Rattle.fs_model.specs.Legal.{AreLines, Opening, Place, Present, count_in, most_weight, pages_in, sides_in}
+use Rattle.fs_model.specs.Legal.{AreLines, Opening, Place, Present, count_in, least_room, most_asked, pages_in, sides_in}
 use Rattle.fs_model.specs.Operation.{files_in, outcome_of}
 use Rattle.fs_laws.specs.Sound.{IsSound}
 use Rattle.buffered_files.specs.declared.kept.Kept.{Kept}
@@ -100,6 +100,19 @@ index_growth_by op = if is_write op || has_group op then 5 + 2 * pages_in op els
 abbrev pub grown_weight : Opening → List TraceLine → ℕ
 grown_weight opening lines = opening.space.weight + 2 * opening.dirty + sum_by (λ line. index_growth_by line.op) lines
 
+-- the place behind these lines, on the files that they leave
+abbrev pub place_after : Opening → List TraceLine → Place
+place_after opening lines = record (first_place opening) { before = lines; files = files_behind opening.files lines }
+
+-- A refusal for want of room tells no less room than there is beside an index that is as heavy as the lines up to it may make it. What only looks makes it no heavier.
+abbrev pub IsRoomTold : Opening → Place → TraceLine → Type 0
+IsRoomTold opening place line =
+    (sides : NoSpace) → line.reply ≡ Refused (Enospc sides) → least_room opening (grown_weight opening (place.before ++ line ∷ [])) (most_asked opening place line) ≤ sides.room
+
+-- the same of each of these lines, in its place
+abbrev pub AreRoomsTold : Opening → List TraceLine → Type 0
+AreRoomsTold opening lines = (before : List TraceLine) (line : TraceLine) (rest : List TraceLine) → lines ≡ before ++ line ∷ rest → IsRoomTold opening (place_after opening before) line
+
 -- whether all is written back behind a line: it is a flush that was done, or a question where all was written back before it
 abbrev pub flushed_by : Bool → Op → Reply → Bool
 flushed_by flushed Flush Done = true
@@ -116,8 +129,8 @@ is_flushed lines = flushed_from false lines
 
 -- what the index weighs, dirty pages included, and how many LEBs it takes, at most
 pub record IsWithinWeight (opening : Opening) (lines : List TraceLine) (state : BackingState) (kept : Kept) : Type 0 where
-  pub weight : full_weight state kept ≤ most_weight opening lines
-  pub index : state.space.index ≤ max opening.space.index (2 * index_lebs opening.geometry (most_weight opening lines))
+  pub weight : full_weight state kept ≤ grown_weight opening lines
+  pub index : state.space.index ≤ max opening.space.index (2 * index_lebs opening.geometry (grown_weight opening lines))
 
 -- These lines, and work between them that callers don't see, lead from the opening to this state. It is what a line more needs in order to be legal too.
 pub record IsHistory (opening : Opening) (noted : List NoSpace) (lines : List TraceLine) (now : FilesState) : Type 0 where
@@ -127,10 +140,11 @@ pub record IsHistory (opening : Opening) (noted : List NoSpace) (lines : List Tr
   pub replayed : last.files ≡ files_behind opening.files lines
   pub same : IsAlike last.files (present_in now)
   pub sound : IsSound last.files
-  -- The mode changes once at most; the sides of refusals are those that are noted since, and the counts of faults rise.
+  -- The mode changes once at most; the sides of refusals are those that are noted since, with no less room than the lines leave, and the counts of faults rise.
   pub mode : IsModeAfter opening now.backing.mode now.backing.faults
   pub refused : now.refused ≡ noted ++ flat_map sides_in lines
   pub asked : All IsRoomAsked lines
+  pub rooms : AreRoomsTold opening lines
   pub counts : Rise opening.faults (flat_map count_in lines) now.backing.faults
   pub faults : opening.faults ≤ now.backing.faults
   -- The layout stays, the next list of orphans has as much room as the lines left of it, and the index weighs no more than they may add.
@@ -139,7 +153,6 @@ pub record IsHistory (opening : Opening) (noted : List NoSpace) (lines : List Tr
   pub limit : now.backing.orphan_limit ≡ opening.orphan_limit
   pub orphans : opening.orphan_room ≤ orphan_room now.backing + last.orphans
   pub weight : now.backing.mode ≡ ReadWrite → IsWithinWeight opening lines now.backing now.kept
-  pub grown : now.backing.mode ≡ ReadWrite → full_weight now.backing now.kept ≤ grown_weight opening lines
   -- Behind a flush that was done no page is dirty, as long as nothing but questions is asked.
   pub flushed : now.backing.mode ≡ ReadWrite → is_flushed lines ≡ true → now.kept.pages.dirty ≡ []
 
