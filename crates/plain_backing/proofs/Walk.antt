@@ -1,6 +1,6 @@
 -- A walk over the blocks of an inode passes each of them once.
 use Rattle.std.proofs.Common.{◌≡◌, ℕ, ◌+◌, ◌-◌, ◌*◌, ◌/◌, ◌^◌, ◌<◌, ◌≤◌, Bool, true, false, cond, not, ◌&&◌, ◌||◌, List, [], ◌∷◌, Option, Some, None, refl, sym, ap, subst, ◌∙◌, arith, inl, inr, suc}
-use Rattle.std.specs.Prelude.{◌==◌, nat_le, nat_lt, IfSome, IsSome, sum_by, unwrap_or}
+use Rattle.std.specs.Prelude.{◌==◌, nat_le, nat_lt, is_some, length, IfSome, IsSome, sum_by, unwrap_or}
 use Rattle.std.specs.Option.{option_map}
 use Rattle.std.specs.List.{AllByRecursion, slice_get}
 use Rattle.std.specs.List.Sorted.{IsStrictlySortedBy}
@@ -306,3 +306,18 @@ pub walk_ends : (old now : List ((ℕ × ℕ) × Option (List ℕ))) (ino size f
 walk_ends old now ino size freed at so is =
     let P : Option ℕ → Type 0 = λ o. now ≡ cleared (cut_before ino size o) old in
     (all_cut old now ino size (subst P is so.cells), ap keys_of so.cells ∙ keys-cleared (cut_before ino size at) old)
+
+-- a block whose cell is empty, as it is found
+pub empty_here : {V : Type 0} (es : List ((ℕ × ℕ) × Option V)) (ino : ℕ) (key : ℕ × ℕ) (cell : Option V) (none : Bool) → lookup (is_at (pair_cmp key)) es ≡ Some cell → key.0 ≡ ino → is_some cell ≡ not none → none ≡ true → lookup (is_at (pair_cmp (ino, key.1))) es ≡ Some None
+empty_here {V} es ino key None none found same told is = subst (λ n. lookup (is_at (pair_cmp (n, key.1))) es ≡ Some None) same found
+empty_here {V} es ino key (Some v) none found same told is = absurd (false≢true (sym (told ∙ ap not is)))
+
+pub empty_at : {V : Type 0} (es : List ((ℕ × ℕ) × Option V)) (ino block : ℕ) (at : Option ℕ) → at ≡ Some block → IfSome at (λ k. lookup (is_at (pair_cmp (ino, k))) es ≡ Some None) → lookup (is_at (pair_cmp (ino, block))) es ≡ Some None
+empty_at {V} es ino block at is empty = let P : Option ℕ → Type 0 = λ o. IfSome o (λ k. lookup (is_at (pair_cmp (ino, k))) es ≡ Some None) in subst P is empty
+
+-- what is taken out is one fewer
+pub one_fewer : {K V : Type 0} (taken : Option V) (old new : List (K × V)) (value : V) → taken ≡ Some value → length new + cond (is_some taken) 1 0 ≡ length old → length new < length old
+one_fewer {K} {V} taken old new value is len =
+    let P : Option V → Type 0 = λ o. length new + cond (is_some o) 1 0 ≡ length old in
+    let one = subst P is len in
+    omega (arith, one)

@@ -220,7 +220,7 @@ impl Backing for PlainBacking {
             return Err(StoreFault::Memory);
         }
         what_was_admitted_can_be_put();
-        self.tree.set_page(page)?;
+        self.tree.set_page(self.alloc, page)?;
         spend_page(&mut self.numbers);
         add_page(&mut self.story, page);
         count_all(&mut self.story);

@@ -3,14 +3,15 @@
 ghost use Rattle.std.specs.Prelude.{◌≡◌, ◌+◌, ◌^◌, ◌<◌, ◌==◌, true, if◌then◌else◌, Some, None, IfSome, sum_by};
 ghost use Rattle.std.specs.BTreeMap.Range.{is_from_start};
 ghost use Rattle.std.specs.List.{AllByRecursion};
-ghost use Rattle.std.specs.Map.{keys_of, values_of};
+ghost use Rattle.std.specs.BTreeMap.{is_at};
+ghost use Rattle.std.specs.Map.{keys_of, lookup, values_of};
 ghost use Rattle.plain_backing.specs.Cells.{seen_cells};
 ghost use Rattle.plain_backing.specs.BlockWalk.{IsStartOf, IsBlockAtMost};
 ghost use Rattle.fs_model.specs.Change.{cut_blocks};
 ghost use Rattle.fs_model.specs.Cover.{block_bytes};
 ghost use Rattle.fs_model.specs.Files.{pair_cmp};
 
-use crate::cell::{put, sweep};
+use crate::cell::put;
 use crate::node_bytes::freed_block;
 use fs_model::BLOCK_SIZE;
 use std::collections::BTreeMap;
@@ -65,13 +66,33 @@ pub(crate) fn clear_blocks(
     freed
 }
 
+// The first block of an inode from a start on whose cell is empty.
+fn next_empty(
+    map: &BTreeMap<(u32, u32), Option<Bytes>>,
+    start: Bound<(u32, u32)>,
+    ino: u32,
+) -> Option<u32>
+    ensures { IfSome result (λ block. lookup (is_at (pair_cmp (ino, block))) map.now.entries ≡ Some None) }
+{
+    let mut left = map.range((start, Bound::Unbounded));
+    while let Some((key, cell)) = left.next() {
+        if key.0 != ino {
+            return None;
+        }
+        if cell.is_none() {
+            return Some(key.1);
+        }
+    }
+    None
+}
+
 /// Takes out the empty cells of an inode's blocks. Nothing that is seen changes. Takes no memory.
 pub(crate) fn sweep_blocks(map: &mut BTreeMap<(u32, u32), Option<Bytes>>, ino: u32)
     ensures same { seen_cells map.new.entries ≡ seen_cells map.old.entries }
 {
-    let mut at = next_block(map, Bound::Included((ino, 0)), ino);
+    let mut at = next_empty(map, Bound::Included((ino, 0)), ino);
     while let Some(block) = at {
-        sweep(map, &(ino, block));
-        at = next_block(map, Bound::Excluded((ino, block)), ino);
+        map.remove(&(ino, block));
+        at = next_empty(map, Bound::Excluded((ino, block)), ino);
     }
 }

@@ -129,7 +129,7 @@ pub(crate) fn sweep_all(cells: &mut TreeCells, keys: &[(u32, OrderedName)], chan
 }
 
 /// Makes the changes of a page's two nodes, both or none. Each value is copied once, and its block is sought once.
-pub(crate) fn set_page(cells: &mut TreeCells, page: &PageNode) -> Result<(), Memory>
+pub(crate) fn set_page(alloc: Global, cells: &mut TreeCells, page: &PageNode) -> Result<(), Memory>
     requires few { cells.old.bytes < 2 ^ 40 }
     requires counted { AreCellsCounted cells.old }
     ensures ok { OnOk result (tree_of_cells cells.new ≡ apply (tree_of_cells cells.old) (page_group page.now)) }
@@ -138,7 +138,7 @@ pub(crate) fn set_page(cells: &mut TreeCells, page: &PageNode) -> Result<(), Mem
     ensures few { cells.new.bytes < 2 ^ 40 }
 {
     let inode = copied_inode(&page.inode)?;
-    let bytes = copied_bytes(&page.bytes)?;
+    let bytes = copied_bytes(alloc, &page.bytes)?;
     let total = grown(cells.bytes, inode_bytes(&inode))?;
     grown(total, block_bytes(&bytes))?;
     make_cell(&mut cells.inodes, page.ino)?;
@@ -160,8 +160,9 @@ fn copied_inode(inode: &Inode) -> Result<Inode, Memory>
     Ok(inode.clone()?)
 }
 
-fn copied_bytes(bytes: &Bytes) -> Result<Bytes, Memory>
+// A copy of bytes, at once: a clone is made byte by byte.
+fn copied_bytes(alloc: Global, bytes: &Bytes) -> Result<Bytes, Memory>
     ensures { IfOk result (λ copy. copy ≡ bytes.now) }
 {
-    Ok(bytes.clone()?)
+    Ok(Bytes::from_slice(alloc, bytes.as_slice())?)
 }

@@ -85,12 +85,12 @@ impl Tree {
     }
 
     /// Makes the changes of a page's two nodes, as `apply` makes a group of them.
-    pub(crate) fn set_page(&mut self, page: &PageNode) -> Result<(), Memory>
+    pub(crate) fn set_page(&mut self, alloc: Global, page: &PageNode) -> Result<(), Memory>
         ensures ok { OnOk result (self.new ≡ apply self.old (page_group page.now)) }
         ensures err { OnErr result (self.new ≡ self.old) }
         ensures few { tree_bytes self.new < 2 ^ 40 }
     {
-        set_page(&mut self.cells, page)
+        set_page(alloc, &mut self.cells, page)
     }
 
     /// The inode of a number.
