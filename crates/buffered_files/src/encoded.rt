@@ -21,7 +21,11 @@ pub fn page_bytes(alloc: Global, kept: &Kept, ino: u32, block: u32) -> Result<Op
     let Some(inode) = kept.inodes.get(ino) else {
         return Ok(None);
     };
-    let bytes = filled(alloc, &dirty.bytes, bytes_before_end(inode.size, block))?;
+    let bytes = filled(
+        Vec::new(alloc),
+        &dirty.bytes,
+        bytes_before_end(inode.size, block),
+    )?;
     Ok(Some(bytes))
 }
 

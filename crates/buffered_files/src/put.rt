@@ -18,15 +18,17 @@ use fs_laws::a_page_keeps_trees_proper;
 use fs_model::{Backing, PageNode, StoreFault};
 use page_cache::Ticket;
 use std::alloc::Global;
+use std::mem::replace;
 use ubifs_base::{Bytes, Memory};
 
 /// Puts the page of a ticket, with its bytes up to the file's end and the inode as it is now. It answers whether the page is dirty at the ticket's
-/// version: where it isn't, all is as it was. After a fault the page is dirty and paid as before.
+/// version: where it isn't, all is as it was. After a fault the page is dirty and paid as before. Its bytes are copied into `room`, which serves page
+/// after page.
 pub fn put_ticket<B: Backing>(
-    alloc: Global,
     backing: &mut B,
     kept: &mut Kept,
     ticket: &Ticket,
+    room: &mut Vec<u8>,
 ) -> Result<bool, StoreFault>
     requires kept { IsKept (B.state backing.old).tree kept.old }
     requires paid { length kept.old.pages.dirty ≤ (B.state backing.old).space.credits }
@@ -53,19 +55,20 @@ pub fn put_ticket<B: Backing>(
     if !kept.pages.is_current(ticket) {
         return Ok(false);
     }
-    let page = page_node(alloc, kept, ticket)?;
+    let page = page_node(kept, ticket, room)?;
     a_page_keeps_trees_proper();
     backing.put_page(&page)?;
     kept.pages.mark_clean(ticket);
+    *room = page.bytes.into_vec();
     Ok(true)
 }
 
 /// Puts the page that became dirty first, as `put_ticket` does, and answers whether there was one. After a fault the page is
 /// dirty and paid as before.
 pub fn put_oldest<B: Backing>(
-    alloc: Global,
     backing: &mut B,
     kept: &mut Kept,
+    room: &mut Vec<u8>,
 ) -> Result<bool, StoreFault>
     requires kept { IsKept (B.state backing.old).tree kept.old }
     requires paid { length kept.old.pages.dirty ≤ (B.state backing.old).space.credits }
@@ -85,7 +88,7 @@ pub fn put_oldest<B: Backing>(
     ensures sure { SureGoes (B.outlook backing.old) (B.outlook backing.new) (B.state backing.old) (B.state backing.new) }
 {
     match kept.pages.oldest() {
-        Some(ticket) => put_ticket(alloc, backing, kept, &ticket),
+        Some(ticket) => put_ticket(backing, kept, &ticket, room),
         None => Ok(false),
     }
 }
@@ -117,8 +120,9 @@ pub fn write_back_file<B: Backing>(
     ensures sure { SureGoes (B.outlook backing.old) (B.outlook backing.new) (B.state backing.old) (B.state backing.new) }
 {
     let tickets = kept.pages.tickets_of(alloc, ino)?;
+    let mut room = Vec::new(alloc);
     for ticket in tickets {
-        put_ticket(alloc, backing, kept, &ticket)?;
+        put_ticket(backing, kept, &ticket, &mut room)?;
     }
     Ok(())
 }
@@ -146,17 +150,18 @@ pub fn write_back<B: Backing>(
     ensures mode { TellsMode (B.state backing.new) result }
     ensures sure { SureGoes (B.outlook backing.old) (B.outlook backing.new) (B.state backing.old) (B.state backing.new) }
 {
+    let mut room = Vec::new(alloc);
     let mut left = kept.pages.dirty();
     while left > 0 {
         left -= 1;
-        put_oldest(alloc, backing, kept)?;
+        put_oldest(backing, kept, &mut room)?;
     }
     kept.inodes.clear();
     Ok(())
 }
 
-// The page of a ticket as it is put.
-fn page_node(alloc: Global, kept: &Kept, ticket: &Ticket) -> Result<PageNode, Memory>
+// The page of a ticket as it is put. Its bytes are copied into the room, which is left empty.
+fn page_node(kept: &Kept, ticket: &Ticket, room: &mut Vec<u8>) -> Result<PageNode, Memory>
     requires inode { is_some (lookup (is_at (nat_cmp ticket.now.ino)) kept.now.inodes) ≡ true }
     requires page { is_some (dirty_at kept.now.pages ticket.now.ino ticket.now.block) ≡ true }
     ensures { IfOk result (λ page. (inode : _) (dirty : _) → lookup (is_at (nat_cmp ticket.now.ino)) kept.now.inodes ≡ Some inode → dirty_at kept.now.pages ticket.now.ino ticket.now.block ≡ Some dirty
@@ -166,21 +171,23 @@ fn page_node(alloc: Global, kept: &Kept, ticket: &Ticket) -> Result<PageNode, Me
     let dirty = kept.pages.dirty_page(ticket.ino, ticket.block).unwrap();
     let start = 4096 * (ticket.block as u64);
     let len = inode.size.saturating_sub(start).min(4096) as usize;
+    let empty = Vec::new(*room.allocator());
     Ok(PageNode {
         ino: ticket.ino,
         block: ticket.block,
-        bytes: filled(alloc, &dirty.bytes, len)?,
+        bytes: filled(replace(room, empty), &dirty.bytes, len)?,
         inode: inode.clone()?,
     })
 }
 
-// Bytes with zeros up to this length, which ends in a page.
-pub(crate) fn filled(alloc: Global, bytes: &Bytes, len: usize) -> Result<Bytes, Memory>
+// Bytes with zeros up to this length, which ends in a page, in place of what stood in the room.
+pub(crate) fn filled(room: Vec<u8>, bytes: &Bytes, len: usize) -> Result<Bytes, Memory>
     requires { len ≤ 4096 }
     ensures { IfOk result (λ new. new ≡ filled bytes.now len) }
 {
     let old = bytes.as_slice();
-    let mut new = Vec::with_capacity(alloc, len.max(old.len()))?;
+    let mut new = room;
+    new.clear();
     new.extend_from_slice(old)?;
     if old.len() < len {
         push_copies(&mut new, 0, len - old.len())?;

@@ -12,6 +12,7 @@ pub mod LegalPhase
 pub mod OneCaller
 pub mod Openings
 pub mod PhaseRuns
+pub mod PlayedLines
 pub mod ReadLines
 pub mod Running
 pub mod Storing

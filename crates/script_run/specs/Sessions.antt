@@ -12,9 +12,7 @@ use Rattle.buffered_files.specs.Present.{present}
 use Rattle.plain_backing.specs.declared.backing.PlainBacking.{PlainBacking}
 use Rattle.plain_backing.specs.PlainBacking.{Covers, backing_state_of}
 use Rattle.script_phase.specs.declared.lines.CallerLine.{CallerLine}
-use Rattle.script_run.specs.Phases.{ScriptPlace}
 use Rattle.script_run.specs.Run.{ScriptRunning}
-use Rattle.script_run.specs.declared.lines.Gathered.{Gathered}
 use Rattle.script_run.specs.declared.session.Session.{Session}
 
 abbrev pub state_in : Session → BackingState
@@ -79,6 +77,3 @@ IsWaiting mounted line = (mounted ≡ true) × (0 < line.caller) × IsCall line.
 -- a session, and the lines that wait
 abbrev pub AreReady : RawGeometry → Session → List CallerLine → Type 0
 AreReady geo session lines = IsSession geo session × All (IsWaiting session.mounted) lines
-
-abbrev pub stage_of : Gathered → ScriptPlace
-stage_of gathered = record { here = running_of gathered.session; lines = gathered.lines.items }

@@ -1,17 +1,18 @@
 // The lines of a script: phases, and the lines of another kind between them.
 
-ghost use Rattle.std.specs.Prelude.{◌≡◌, ℕ, ◌+◌, ◌≤◌, ◌++◌, IfOk, List, [], Bool, false, length};
+ghost use Rattle.std.specs.Prelude.{◌≡◌, ℕ, ◌+◌, ◌≤◌, ◌++◌, ◌∷◌, IfOk, OnOk, List, [], Bool, false, length};
 ghost use Rattle.std.specs.List.{AllByRecursion};
 ghost use Rattle.ubifs_base.specs.RawOf.{raw_of};
 ghost use Rattle.script_text.specs.Script.{IsInRange, Leads, MayStand};
-ghost use Rattle.script_run.specs.Phases.{HasAdvanced, ArePhases, IsTurn};
+ghost use Rattle.script_run.specs.Phases.{ArePhases, IsTurn};
 ghost use Rattle.fs_model.specs.Journal.{Journal};
 ghost use Rattle.script_run.specs.Run.{LeavesOnly, opening_on};
-ghost use Rattle.script_run.specs.Sessions.{AreReady, IsSession, running_of, stage_of, state_in};
+ghost use Rattle.script_run.specs.Sessions.{AreReady, IsSession, running_of, state_in};
 
 use crate::opening::Opening;
 use crate::phase::serve_phase;
 use crate::session::{Session, first_session, next};
+use fs_model::Op;
 use script_phase::CallerLine;
 use script_text::Part;
 use std::alloc::Global;
@@ -55,36 +56,21 @@ pub(crate) fn play_lines<R: Threads + Wait + Sync, G: Gate + Sync>(
         lines: Vec::new(alloc),
     };
     for part in parts {
-        gathered = advance(rt, alloc, gathered, part, gate, &mut text)?;
+        match part {
+            Part::Line { caller, op } => push_line(&mut gathered.lines, caller, op)?,
+            control => gathered = turn(rt, alloc, gathered, control, gate, &mut text)?,
+        }
     }
     let session = serve_phase(rt, alloc, gathered.session, gathered.lines, gate, &mut text)?;
     Ok(PlayedLines { text, session })
 }
 
-// A caller's line waits. A line of another kind first ends the phase.
-fn advance<R: Threads + Wait + Sync, G: Gate + Sync>(
-    rt: &R,
-    alloc: Global,
-    gathered: Gathered,
-    part: Part,
-    gate: &G,
-    text: &mut Vec<u8>,
-) -> Result<Gathered, Memory>
-    requires ready { AreReady (state_in gathered.session).geometry gathered.session gathered.lines.items }
-    requires part { IsInRange part × MayStand gathered.session.mounted part }
-    requires few { gathered.session.number + length gathered.lines.items ≤ 100000 }
-    ensures ready { IfOk result (λ new. AreReady (state_in gathered.session).geometry new.session new.lines.items) }
-    ensures advanced { IfOk result (λ new. (more : List ℕ) × HasAdvanced (state_in gathered.session).geometry (stage_of gathered) part more (stage_of new) × (text.new.items ≡ text.old.items ++ more)) }
-    ensures few { IfOk result (λ new. new.session.number + length new.lines.items ≤ gathered.session.number + length gathered.lines.items + 1) }
+// A caller's line waits.
+fn push_line(lines: &mut Vec<CallerLine>, caller: u16, op: Op) -> Result<(), Memory>
+    ensures { OnOk result (lines.new.items ≡ lines.old.items ++ (record { caller = caller; op = op }) ∷ []) }
 {
-    match part {
-        Part::Line { caller, op } => {
-            let Gathered { session, mut lines } = gathered;
-            lines.push(CallerLine { caller, op })?;
-            Ok(Gathered { session, lines })
-        }
-        control => turn(rt, alloc, gathered, control, gate, text),
-    }
+    lines.push(CallerLine { caller, op })?;
+    Ok(())
 }
 
 // Ends the phase, and does what a line of another kind says.

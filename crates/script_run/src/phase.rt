@@ -5,7 +5,7 @@ ghost use Rattle.std.specs.List.{list_all};
 ghost use Rattle.script_run.specs.Phases.{AreServed, AreServedTogether, IsPhase, is_alone, trace_text};
 ghost use Rattle.script_run.specs.Sessions.{IsSession, IsWaiting, running_of, state_in};
 
-use crate::session::{Session, served};
+use crate::session::{Session, serve};
 use buffered_files::{clean_files_are_those_of_the_backing, present_files_are_sound};
 use fs_model::TraceLine;
 use live_fs::Closed;
@@ -75,7 +75,7 @@ fn serve_in_turn(
 {
     let mut session = session;
     for line in lines {
-        session = served(session, line.caller, line.op, text)?;
+        serve(&mut session, line.caller, line.op, text)?;
     }
     Ok(session)
 }

@@ -109,6 +109,21 @@ pub(crate) fn next(
     }
 }
 
+// Does a caller's operation.
+fn served(session: Session, caller: u16, op: Op, text: &mut Vec<u8>) -> Result<Session, Memory>
+    requires session { IsSession (state_in session).geometry session }
+    requires call { IsPartCalled (Line caller op) }
+    requires mounted { session.mounted ≡ true }
+    requires few { session.number < 2 ^ 32 }
+    ensures session { IfOk result (λ new. IsSession (state_in session).geometry new) }
+    ensures part { IfOk result (λ new. (line : List ℕ) × IsScriptPart (state_in session).geometry (running_of session) (Line caller op) line (running_of new) × (text.new.items ≡ text.old.items ++ line)) }
+    ensures few { IfOk result (λ new. new.number ≡ session.number + 1) }
+{
+    let mut session = session;
+    serve(&mut session, caller, op, text)?;
+    Ok(session)
+}
+
 // Mounts the volume.
 fn mounted(session: Session, text: &mut Vec<u8>) -> Result<Session, Memory>
     requires session { IsSession (state_in session).geometry session }
@@ -147,32 +162,25 @@ fn unmounted(alloc: Global, session: Session, text: &mut Vec<u8>) -> Result<Sess
 }
 
 /// Does a caller's operation, and prints the reply.
-pub(crate) fn served(
-    session: Session,
+pub(crate) fn serve(
+    session: &mut Session,
     caller: u16,
     op: Op,
     text: &mut Vec<u8>,
-) -> Result<Session, Memory>
-    requires session { IsSession (state_in session).geometry session }
+) -> Result<(), Memory>
+    requires session { IsSession (state_in session.old).geometry session.old }
     requires call { IsPartCalled (Line caller op) }
-    requires mounted { session.mounted ≡ true }
-    requires few { session.number < 2 ^ 32 }
-    ensures session { IfOk result (λ new. IsSession (state_in session).geometry new) }
-    ensures part { IfOk result (λ new. (line : List ℕ) × IsScriptPart (state_in session).geometry (running_of session) (Line caller op) line (running_of new) × (text.new.items ≡ text.old.items ++ line)) }
-    ensures few { IfOk result (λ new. new.number ≡ session.number + 1) }
+    requires mounted { session.old.mounted ≡ true }
+    requires few { session.old.number < 2 ^ 32 }
+    ensures session { OnOk result (IsSession (state_in session.old).geometry session.new) }
+    ensures part { OnOk result ((line : List ℕ) × IsScriptPart (state_in session.old).geometry (running_of session.old) (Line caller op) line (running_of session.new) × (text.new.items ≡ text.old.items ++ line)) }
+    ensures few { OnOk result (session.new.number ≡ session.old.number + 1) }
 {
-    let mut fs = session.fs;
-    let reply = replied(&mut fs, caller, session.now, op)?;
+    let reply = replied(&mut session.fs, caller, session.now, op)?;
     let number = session.number + 1;
     write_reply(caller, number, &reply, text)?;
-    Ok(Session {
-        fs,
-        geometry: session.geometry,
-        mounted: session.mounted,
-        now: session.now,
-        number,
-        workers: session.workers,
-    })
+    session.number = number;
+    Ok(())
 }
 
 // Puts all that is dirty and commits it, closes all that is open, and drops what has no name then. Nothing was put since on the volume.

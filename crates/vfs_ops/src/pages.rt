@@ -128,7 +128,8 @@ fn put_open<B: Backing>(alloc: Global, backing: &mut B, kept: &mut Kept, page: &
         version: page.version,
     };
     present_files_are_sound();
-    match put_ticket(alloc, backing, kept, &ticket) {
+    let mut room = Vec::new(alloc);
+    match put_ticket(backing, kept, &ticket, &mut room) {
         Ok(_) => Outcome::PutDone,
         Err(fault) => Outcome::Fault { fault },
     }

@@ -34,7 +34,7 @@ returns-in_err-put_page-clause-goes g c = Goes-put c.put_page.result (page_group
 pub returns-clause-goes : goal.returns-clause-goes
 returns-clause-goes g c = Goes-put c.put_page.result (page_group c.in_ok-page.page) (g.B.Backing.state c.args.backing.now) (g.B.Backing.state c.put_page.new.self) c.put_page.ensures.goes
 
-made : (g : Over) (c : goal.After-drop-page-3 g) → AfterPut (g.B.Backing.state c.args.backing.now) (g.B.Backing.state c.put_page.new.self) c.args.kept.now (record c.args.kept.now { pages = c.mark_clean.new.self })
+made : (g : Over) (c : goal.After-drop-page-2 g) → AfterPut (g.B.Backing.state c.args.backing.now) (g.B.Backing.state c.put_page.new.self) c.args.kept.now (record c.args.kept.now { pages = c.mark_clean.new.self })
 made g c =
     let old = g.B.Backing.state c.args.backing.now in
     let current = sym c.is_current.ensures ∙ c.if-not-is_current.false in

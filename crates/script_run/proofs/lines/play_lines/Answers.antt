@@ -7,14 +7,15 @@ use Rattle.ubifs_base.specs.RawOf.{raw_of}
 use Rattle.script_text.specs.declared.part.Part.{Part}
 use Rattle.script_text.specs.Script.{IsInRange, Leads}
 use Rattle.script_phase.specs.declared.lines.CallerLine.{CallerLine}
-use Rattle.script_run.specs.Phases.{HasAdvanced, IsPhase, ArePhases}
+use Rattle.script_run.specs.Phases.{IsPhase, ArePhases}
 use Rattle.script_run.specs.Run.{ScriptRunning, opening_on}
-use Rattle.script_run.specs.Sessions.{AreReady, IsWaiting, running_of, stage_of, state_in}
-use Rattle.script_run.proofs.PhaseRuns.{advance_mounts, advanced, run_ends}
+use Rattle.script_run.specs.Sessions.{AreReady, IsWaiting, running_of, state_in}
+use Rattle.script_run.proofs.PhaseRuns.{run_ends}
+use Rattle.script_run.proofs.PlayedLines.{Playing, place_of, played_line, played_turn}
 use Rattle.script_run.proofs.lines.play_lines.Goals as goal
 
-pub advance-requires-clause-part : goal.advance-requires-clause-part
-advance-requires-clause-part g c κs within =
+pub turn-requires-clause-part : goal.turn-requires-clause-part
+turn-requires-clause-part g c κs within =
     let was = c.loop-part.invariant in
     let next = c.in-Some.ensures.steps.0 in
     let range = subst (AllByRecursion IsInRange) next was.range in
@@ -49,47 +50,12 @@ loop-part-init g c =
       few = omega (arith, number, none, many, few);
     }
 
-pub loop-part-preserved : goal.loop-part-preserved
-loop-part-preserved g c =
-    let geo = raw_of c.args.opening.geometry in
-    let was = c.loop-part.invariant in
-    let first = opening_on c.args.opening.tree was.run.0 c.args.opening.space.weight in
-    let old = stage_of c.loop-part.gathered in
-    let gathered = c.in_ok-gathered.gathered in
-    let new = stage_of gathered in
-    let part = c.in-Some.part in
-    let rest = c.next.new.self.rest.items in
-    let next = c.in-Some.ensures.steps.0 in
-    let same = was.ready.0.steady.geometry in
-    let step = c.in_ok-gathered.ensures.advanced in
-    let one : HasAdvanced geo old part step.0 new = subst (λ (g : RawGeometry). HasAdvanced g old part step.0 new) same step.1 in
-    let order = subst (λ (parts : List Part). Leads c.loop-part.gathered.session.mounted parts was.order.0) next was.order.1 in
-    let range = subst (AllByRecursion IsInRange) next was.range in
-    let lengths : length c.loop-part.part-iterator.rest.items ≡ length (part ∷ rest) = ap (λ (parts : List Part). length parts) next in
-    let few = was.few in
-    let more_few = c.in_ok-gathered.ensures.few in
-    record {
-      ready = subst (λ (g : RawGeometry). AreReady g gathered.session gathered.lines.items) same c.in_ok-gathered.ensures.ready;
-      run = (
-        was.run.0,
-        was.run.1,
-        λ more last run.
-            let text : c.advance.new.text.items ++ more ≡ c.loop-part.text.items ++ (step.0 ++ more) = ap (λ (t : List ℕ). t ++ more) step.2 ∙ append_assoc c.loop-part.text.items step.0 more in
-            let behind = advanced geo old new part rest step.0 more last one run in
-            subst (λ (t : List ℕ). ArePhases geo first [] c.args.parts.items t last) (sym text)
-            (was.run.2 (step.0 ++ more) last (subst (λ (parts : List Part). ArePhases geo old.here old.lines parts (step.0 ++ more) last) (sym next) behind)),
-      );
-      order = (was.order.0, subst (λ (b : Bool). Leads b rest was.order.0) (sym (advance_mounts geo old new part step.0 one)) order.1);
-      range = range.1;
-      few = omega (arith, few, more_few, lengths);
-    }
-
 pub returns-clause-run : goal.returns-clause-run
 returns-clause-run g c =
     let geo = raw_of c.args.opening.geometry in
     let was = c.loop-part.invariant in
     let first = opening_on c.args.opening.tree was.run.0 c.args.opening.space.weight in
-    let old = stage_of c.loop-part.gathered in
+    let old = place_of c.loop-part.gathered.session c.loop-part.gathered.lines.items in
     let new = running_of c.in_ok-session-2.session in
     let none = c.in-None.ensures.steps.0 in
     let same = was.ready.0.steady.geometry in
@@ -97,3 +63,24 @@ returns-clause-run g c =
     let one = subst (λ (g : RawGeometry). IsPhase g old.here old.lines phase.0 new) same phase.1 in
     let run = was.run.2 phase.0 new (run_ends geo old.here new old.lines c.loop-part.part-iterator.rest.items phase.0 (omega (arith, none)) one) in
     (was.run.0, was.run.1, subst (λ (t : List ℕ). ArePhases geo first [] c.args.parts.items t new) (sym phase.2) run)
+
+pub loop-part-preserved-in-Continue-branch-2 : goal.loop-part-preserved-in-Continue-branch-2
+loop-part-preserved-in-Continue-branch-2 g c =
+    let geo = raw_of c.args.opening.geometry in
+    let w = c.loop-part.invariant in
+    let was : Playing geo c.args.opening.tree c.args.opening.space.weight c.args.parts.items c.loop-part.gathered.session c.loop-part.gathered.lines.items c.loop-part.part-iterator.rest.items c.loop-part.text.items = record { ready = w.ready; run = w.run; order = w.order; range = w.range; few = w.few } in
+    let rest = c.next.new.self.rest.items in
+    let now = played_line geo c.args.opening.tree c.args.opening.space.weight c.args.parts.items c.loop-part.gathered.session c.loop-part.gathered.lines.items c.push_line.new.lines.items c.loop-part.part-iterator.rest.items rest c.in-Line.caller c.in-Line.op c.loop-part.text.items
+    was (c.in-Some.ensures.steps.0 ∙ ap (λ p. p ∷ rest) c.in-Line.is) c.in_ok-push_line-in-Line.ensures in
+    record { ready = now.ready; run = now.run; order = now.order; range = now.range; few = now.few }
+
+pub loop-part-preserved : goal.loop-part-preserved
+loop-part-preserved g c =
+    let geo = raw_of c.args.opening.geometry in
+    let w = c.loop-part.invariant in
+    let was : Playing geo c.args.opening.tree c.args.opening.space.weight c.args.parts.items c.loop-part.gathered.session c.loop-part.gathered.lines.items c.loop-part.part-iterator.rest.items c.loop-part.text.items = record { ready = w.ready; run = w.run; order = w.order; range = w.range; few = w.few } in
+    let new = c.in_ok-gathered-in_default.gathered in
+    let e = c.in_ok-gathered-in_default.ensures in
+    let now = played_turn geo c.args.opening.tree c.args.opening.space.weight c.args.parts.items c.loop-part.gathered.session new.session c.loop-part.gathered.lines.items new.lines.items c.loop-part.part-iterator.rest.items c.next.new.self.rest.items c.in-Some.part c.loop-part.text.items c.turn.new.text.items
+    was c.in-Some.ensures.steps.0 c.in_default.not-Line e.session e.turn e.lines e.few in
+    record { ready = now.ready; run = now.run; order = now.order; range = now.range; few = now.few }

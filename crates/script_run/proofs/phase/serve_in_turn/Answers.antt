@@ -9,20 +9,20 @@ use Rattle.script_run.specs.Sessions.{IsSession, IsWaiting, running_of, state_in
 use Rattle.script_run.proofs.PhaseRuns.{served_ends}
 use Rattle.script_run.proofs.phase.serve_in_turn.Goals as goal
 
-pub served-requires-clause-mounted : goal.served-requires-clause-mounted
-served-requires-clause-mounted c =
+pub serve-requires-clause-mounted : goal.serve-requires-clause-mounted
+serve-requires-clause-mounted c =
     let was = c.loop-line.invariant in
     let all = subst (All (IsWaiting c.args.session.mounted)) c.in-Some.ensures.steps.0 was.lines in
     was.mounted ∙ (All-head (IsWaiting c.args.session.mounted) c.in-Some.line c.next.new.self.rest.items all).0
 
-pub served-requires-clause-call : goal.served-requires-clause-call
-served-requires-clause-call c =
+pub serve-requires-clause-call : goal.serve-requires-clause-call
+serve-requires-clause-call c =
     let was = c.loop-line.invariant in
     let all = subst (All (IsWaiting c.args.session.mounted)) c.in-Some.ensures.steps.0 was.lines in
     (All-head (IsWaiting c.args.session.mounted) c.in-Some.line c.next.new.self.rest.items all).2
 
-pub served-requires-clause-few : goal.served-requires-clause-few
-served-requires-clause-few c =
+pub serve-requires-clause-few : goal.serve-requires-clause-few
+serve-requires-clause-few c =
     let was = c.loop-line.invariant.few in
     let few = c.requires.few in
     omega (arith, was, few)
@@ -32,19 +32,19 @@ loop-line-preserved c =
     let was = c.loop-line.invariant in
     let geo = (state_in c.args.session).geometry in
     let old = c.loop-line.session in
-    let new = c.in_ok-session.session in
+    let new = c.serve.new.session in
     let line = c.in-Some.line in
     let rest = c.next.new.self.rest.items in
     let next = c.in-Some.ensures.steps.0 in
     let same = was.session.steady.geometry in
-    let step = c.in_ok-session.ensures.part in
+    let step = c.in_ok-serve.ensures.part in
     let one : IsLineServed geo (running_of old) line.caller line.op step.0 (running_of new) = subst (λ (g : RawGeometry). IsLineServed g (running_of old) line.caller line.op step.0 (running_of new)) same step.1 in
     let all = subst (All (IsWaiting c.args.session.mounted)) next was.lines in
     let few = was.few in
-    let more_few = c.in_ok-session.ensures.few in
+    let more_few = c.in_ok-serve.ensures.few in
     let lengths : length c.loop-line.line-iterator.rest.items ≡ length (line ∷ rest) = ap (λ (ls : List CallerLine). length ls) next in
     record {
-      session = subst (λ (g : RawGeometry). IsSession g new) same c.in_ok-session.ensures.session;
+      session = subst (λ (g : RawGeometry). IsSession g new) same c.in_ok-serve.ensures.session;
       mounted = ap (λ (s : ScriptRunning). s.mounted) one.rest ∙ was.mounted;
       lines = All-tail (IsWaiting c.args.session.mounted) line rest all;
       few = omega (arith, few, more_few, lengths);
