@@ -1,3 +1,4 @@
+pub mod Admitting
 pub mod Answering
 pub mod AtOnce
 pub mod Closed
@@ -13,6 +14,7 @@ pub mod OneCaller
 pub mod Openings
 pub mod PhaseRuns
 pub mod ReadLines
+pub mod RoomLaws
 pub mod Running
 pub mod Storing
 pub mod Working
