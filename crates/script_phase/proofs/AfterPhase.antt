@@ -84,11 +84,11 @@ trace_of old new before after noted refused now lines trace was is h found = rec
   last = h.last;
   answered = open_lines (opened_over old before noted (callers_in lines)) (backing_state_of new).mode trace h.last was.mode is.mode h.leads;
   asked = h.asked;
+  rooms = h.rooms;
   memory = found.memory;
   faultless = none_told (backing_state_of old).faults (flat_map count_in trace) (subst (Rise (backing_state_of old).faults (flat_map count_in trace)) is.faults h.counts);
   same = h.same;
   flushed = h.flushed is.mode;
-  grown = h.grown is.mode;
   weight = h.weight is.mode;
   orphans = h.orphans;
 }

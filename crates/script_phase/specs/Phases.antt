@@ -11,11 +11,10 @@ use Rattle.fs_model.specs.Backing.{orphan_room}
 use Rattle.fs_model.specs.Legal.{AreLines, Opening, Place, count_in}
 use Rattle.buffered_files.specs.declared.kept.Kept.{Kept}
 use Rattle.buffered_files.specs.Alike.{IsAlike}
-use Rattle.buffered_files.specs.Calls.{full_weight}
 use Rattle.plain_backing.specs.declared.backing.PlainBacking.{PlainBacking}
 use Rattle.plain_backing.specs.PlainBacking.{outlook_of, backing_state_of}
 use Rattle.vfs_ops.specs.FilesState.{FilesState, present_in}
-use Rattle.traced_files.specs.History.{IsRoomAsked, IsWithinWeight, first_place, grown_weight, is_flushed}
+use Rattle.traced_files.specs.History.{AreRoomsTold, IsRoomAsked, IsWithinWeight, first_place, is_flushed}
 use Rattle.traced_files.specs.States.{TracedPassState}
 use Rattle.writeback.specs.Runs.{lines_by}
 use Rattle.script_phase.specs.declared.lines.CallerLine.{CallerLine}
@@ -68,17 +67,17 @@ pub record IsOneTrace (opening : Opening) (now : ℕ) (lines : List CallerLine) 
   -- Each caller's lines stand in it, each once and in order, and no others; they have the phase's time.
   pub own : (caller : ℕ) → traced_by caller trace ≡ ops_by caller lines
   pub time : All (λ line. line.now ≡ now) trace
-  -- Each is numbered by its caller, and answered as the plain operation answers on the files that the line before it left; or it is refused: for want of room if it may ask for room, or since the next list of orphans is full. None was refused for want of memory, or by a fault of the volume.
+  -- Each is numbered by its caller, and answered as the plain operation answers on the files that the line before it left; or it is refused: for want of room if it may ask for room, with no less room than the lines leave, or since the next list of orphans is full. None was refused for want of memory, or by a fault of the volume.
   pub last : Place
   pub answered : AreLines opening ReadWrite (first_place opening) trace last
   pub asked : All IsRoomAsked trace
+  pub rooms : AreRoomsTold opening trace
   pub memory : All (λ line. is_memory line.reply ≡ false) trace
   pub faultless : flat_map count_in trace ≡ []
   -- Callers see the files behind the last line, but for zeros at the ends of blocks.
   pub same : IsAlike last.files (present_in after)
   -- Behind a flush that was done no page is dirty, as long as nothing but questions is asked.
   pub flushed : is_flushed trace ≡ true → after.kept.pages.dirty ≡ []
-  -- The index weighs no more than the lines may add: what neither writes nor has a group adds nothing. It takes no more LEBs than five nodes for each line ask for. The next list of orphans has as much room as the lines left of it.
-  pub grown : full_weight after.backing after.kept ≤ grown_weight opening trace
+  -- The index weighs no more than the lines may add: what neither writes nor has a group adds nothing. It takes no more LEBs than before, or than twice those that it asks for. The next list of orphans has as much room as the lines left of it.
   pub weight : IsWithinWeight opening trace after.backing after.kept
   pub orphans : opening.orphan_room ≤ orphan_room after.backing + last.orphans

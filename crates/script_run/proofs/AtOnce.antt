@@ -23,7 +23,7 @@ use Rattle.buffered_files.specs.Present.{IsKept, present}
 use Rattle.plain_backing.specs.declared.backing.PlainBacking.{PlainBacking}
 use Rattle.plain_backing.specs.PlainBacking.{outlook_of, backing_state_of}
 use Rattle.vfs_ops.specs.FilesState.{FilesState}
-use Rattle.traced_files.specs.History.{first_place, opening_of}
+use Rattle.traced_files.specs.History.{AreRoomsTold, first_place, grown_weight, opening_of, place_after}
 use Rattle.traced_files.specs.Seen.{LeavesSeen}
 use Rattle.script_phase.specs.declared.lines.CallerLine.{CallerLine}
 use Rattle.script_phase.specs.Phases.{HasSameLimits, IsOneTrace, IsUnfailing, callers_in}
@@ -58,6 +58,8 @@ steady_of geo old new before after was laid is = record {
 pub record IsAsMuch (a b : Opening) : Type 0 where
   pub asked : (place : Place) (line : TraceLine) → most_asked a place line ≡ most_asked b place line
   pub weight : (lines : List TraceLine) → most_weight a lines ≡ most_weight b lines
+  pub grown : (lines : List TraceLine) → grown_weight a lines ≡ grown_weight b lines
+  pub reached : (lines : List TraceLine) → place_after a lines ≡ place_after b lines
   pub room : (weight : ℕ) (need : Need) → least_room a weight need ≡ least_room b weight need
   pub orphan_room : a.orphan_room ≡ b.orphan_room
   pub orphan_limit : a.orphan_limit ≡ b.orphan_limit
@@ -90,6 +92,16 @@ lines_as a b eq mode place [] last h = h
 lines_as a b eq mode place (line ∷ lines) last (number, after, how, rest) =
     (number, after, line_as a b eq place mode line after how, lines_as a b eq mode (behind place line after) lines last rest)
 
+-- so does each room that is told
+pub rooms_as : (a b : Opening) → IsAsMuch a b → (lines : List TraceLine) → AreRoomsTold a lines → AreRoomsTold b lines
+rooms_as a b eq lines rooms before line rest all sides told =
+    let heavy : ℕ = grown_weight b (before ++ line ∷ []) in
+    let here : Place = place_after b before in
+    subst (λ (r : ℕ). r ≤ sides.room)
+    (ap (λ (w : ℕ). least_room a w (most_asked a (place_after a before) line)) (eq.grown (before ++ line ∷ []))
+    ∙ (ap (λ (p : Place). least_room a heavy (most_asked a p line)) (eq.reached before) ∙ (ap (λ (n : Need). least_room a heavy n) (eq.asked here line) ∙ eq.room heavy (most_asked b here line))))
+    (rooms before line rest all sides told)
+
 -- where a script is over this backing
 abbrev pub running_over : PlainBacking → Kept → Bool → ℕ → ℕ → ℕ → ScriptRunning
 running_over backing kept mounted now number workers = record {
@@ -115,6 +127,8 @@ much_as : (old : PlainBacking) (before : Kept) (noted : List NoSpace) (mounted :
 much_as old before noted mounted now number workers callers steady none = record {
   asked = λ place line. refl;
   weight = λ lines. omega arith;
+  grown = λ lines. omega arith;
+  reached = λ lines. refl;
   room = λ weight need. refl;
   orphan_room = ap (λ (n : ℕ). n - next_orphans (backing_state_of old)) steady.orphans ∙ ap (λ (n : ℕ). orphan_limit (backing_state_of old).geometry.leb_size - (n + (backing_state_of old).closed)) (sym none);
   orphan_limit = steady.orphans;
@@ -138,6 +152,7 @@ at_once_of old new before after noted refused mounted now number workers lines t
       last = h.last;
       answered = lines_as a b much ReadWrite (first_place a) trace h.last h.answered;
       asked = h.asked;
+      rooms = rooms_as a b much trace h.rooms;
       memory = h.memory;
       faultless = h.faultless;
       printed = refl;
@@ -146,8 +161,8 @@ at_once_of old new before after noted refused mounted now number workers lines t
       left = left;
       stored = stored_left new;
       flushed = λ behind. sym (clean (backing_state_of new).tree after fits (h.flushed behind));
-      weight = let grown = h.grown in omega (arith, grown);
-      index = subst (λ (w : ℕ). (backing_state_of new).space.index ≤ max (backing_state_of old).space.index (2 * index_lebs geo w)) (much.weight trace) h.weight.index;
+      weight = let grown = h.weight.weight in omega (arith, grown);
+      index = subst (λ (w : ℕ). (backing_state_of new).space.index ≤ max (backing_state_of old).space.index (2 * index_lebs geo w)) (much.grown trace) h.weight.index;
       orphans = subst (λ (room : ℕ). room ≤ (orphan_limit geo.leb_size - orphans_told (running_over new after mounted now 0 workers)) + h.last.orphans) much.orphan_room
           (subst (λ (room : ℕ). a.orphan_room ≤ room + h.last.orphans)
           (ap (λ (n : ℕ). n - next_orphans (backing_state_of new)) is.orphans ∙ ap (λ (n : ℕ). orphan_limit geo.leb_size - (n + (backing_state_of new).closed)) (sym none_after)) h.orphans);

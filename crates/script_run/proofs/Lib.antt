@@ -1,3 +1,4 @@
+pub mod Admitting
 pub mod Answering
 pub mod AtOnce
 pub mod Closed
@@ -14,6 +15,7 @@ pub mod Openings
 pub mod PhaseRuns
 pub mod PlayedLines
 pub mod ReadLines
+pub mod RoomLaws
 pub mod Running
 pub mod Storing
 pub mod Working

@@ -84,4 +84,5 @@ replied_in geo a b m n i j w v caller op reply h = record {
   still = h.still;
   grown = record { weight = h.grown.weight; index = h.grown.index };
   few = h.few;
+  admitted = h.admitted;
 }

@@ -7,10 +7,10 @@ use Rattle.fs_model.specs.declared.backing_answers.Mode.TheVariants.{ReadWrite}
 use Rattle.fs_model.specs.declared.trace.TraceLine.{TraceLine}
 use Rattle.fs_model.specs.Cover.{index_lebs}
 use Rattle.fs_model.specs.Journal.{MayLeave}
-use Rattle.fs_model.specs.Legal.{AreLines, Opening, Place, Present, count_in, most_weight, sides_in}
+use Rattle.fs_model.specs.Legal.{AreLines, Opening, Place, Present, count_in, sides_in}
 use Rattle.fs_model.specs.Orphan.{without_nameless}
 use Rattle.buffered_files.specs.Alike.{IsAlike}
-use Rattle.traced_files.specs.History.{IsRoomAsked, grown_weight, is_flushed}
+use Rattle.traced_files.specs.History.{AreRoomsTold, IsRoomAsked, grown_weight, is_flushed}
 use Rattle.traced_files.specs.Seen.{LeavesSeen}
 use Rattle.script_text.specs.declared.part.Part.{Part}
 use Rattle.script_text.specs.declared.part.Part.TheVariants.{Line, Workers}
@@ -54,10 +54,11 @@ pub record AreServedTogether (geo : RawGeometry) (before : ScriptRunning) (lines
   -- Each caller's lines stand in it, each once and in order, and no others; they have the phase's time.
   pub own : (caller : ℕ) → traced_by caller trace ≡ ops_by caller lines
   pub time : All (λ line. line.now ≡ before.now) trace
-  -- Each is numbered by its caller, and answered as the plain operation answers on the files that the line before it left; or it is refused: for want of room if it may ask for room, or since the next list of orphans is full. None was refused for want of memory, or by a fault of the volume.
+  -- Each is numbered by its caller, and answered as the plain operation answers on the files that the line before it left; or it is refused: for want of room if it may ask for room, with no less room than the lines leave, or since the next list of orphans is full. None was refused for want of memory, or by a fault of the volume.
   pub last : Place
   pub answered : AreLines (opened_on geo (callers_in lines) before) ReadWrite (place_at before) trace last
   pub asked : All IsRoomAsked trace
+  pub rooms : AreRoomsTold (opened_on geo (callers_in lines) before) trace
   pub memory : All (λ line. is_memory line.reply ≡ false) trace
   pub faultless : flat_map count_in trace ≡ []
   pub printed : text ≡ trace_text trace
@@ -69,9 +70,9 @@ pub record AreServedTogether (geo : RawGeometry) (before : ScriptRunning) (lines
   pub stored : MayLeave after.journal (without_nameless after.stored)
   -- Behind a flush that was done that is stored which they see, as long as nothing but questions is asked.
   pub flushed : is_flushed trace ≡ true → after.stored ≡ after.files.tree
-  -- The index weighs no more than the lines may add: what neither writes nor has a group adds nothing. It takes no more LEBs than five nodes for each line ask for. The next list of orphans has as much room as the lines left of it.
+  -- The index weighs no more than the lines may add: what neither writes nor has a group adds nothing. It takes no more LEBs than before, or than twice those that it asks for. The next list of orphans has as much room as the lines left of it.
   pub weight : after.weight ≤ grown_weight (opened_on geo (callers_in lines) before) trace
-  pub index : after.index ≤ max before.index (2 * index_lebs geo (most_weight (opened_on geo (callers_in lines) before) trace))
+  pub index : after.index ≤ max before.index (2 * index_lebs geo (grown_weight (opened_on geo (callers_in lines) before) trace))
   pub orphans : orphan_limit geo.leb_size - orphans_told before ≤ (orphan_limit geo.leb_size - orphans_told after) + last.orphans
   pub rest : after ≡ record before { files = after.files; stored = after.stored; journal = after.journal; weight = after.weight; index = after.index; closed = after.closed; number = 0 }
 

@@ -23,12 +23,14 @@ use Rattle.fs_model.specs.Worked.{fresh}
 use Rattle.buffered_files.specs.Alike.{IsAlike}
 use Rattle.vfs_ops.specs.Kinds.{added_by, is_question}
 use Rattle.vfs_ops.specs.Operations.{nodes_asked}
+use Rattle.vfs_ops.specs.Replies.{is_refusal}
 use Rattle.vfs_ops.specs.Steps.{IsDone, allowed, asked}
 use Rattle.traced_files.specs.Seen.{IsFileStored, LeavesSeen}
 use Rattle.script_text.specs.declared.part.Part.{Part}
 use Rattle.script_text.specs.declared.part.Part.TheVariants.{Mount, Unmount, Now, Workers, Line}
 use Rattle.script_text.specs.Reply.{reply_line}
 use Rattle.text_lines.specs.Lines.{ended}
+use Rattle.script_run.specs.Admission.{HadRoom, least_need}
 use Rattle.script_run.specs.Stored.{IsUnder, is_early}
 
 -- where a script is
@@ -134,6 +136,12 @@ nodes_for before caller op = nodes_asked before.files caller before.now op
 abbrev pub nodes_added : ScriptRunning → ℕ → Op → Reply → ℕ
 nodes_added before caller op reply = added_by (2 * pages_in op + nodes_for before caller op) (max 2 (nodes_for before caller op)) reply
 
+-- what is done, if it asks for a credit or a node at least, had room for what it asks
+abbrev pub IsAdmittedLine : RawGeometry → ScriptRunning → ℕ → Op → Reply → ScriptRunning → Type 0
+IsAdmittedLine geo before caller op reply after =
+    is_refusal reply ≡ false → 0 < (least_need before.files caller before.now op).credits + (least_need before.files caller before.now op).nodes
+    → HadRoom geo before.files (least_need before.files caller before.now op) after.stored
+
 -- a caller's line, as the next of its trace
 abbrev pub script_line_of : ScriptRunning → ℕ → Op → Reply → TraceLine
 script_line_of before caller op reply = record { caller = caller; number = before.number + 1; now = before.now; op = op; reply = reply }
@@ -153,6 +161,8 @@ pub record IsReplied (geo : RawGeometry) (before : ScriptRunning) (caller : ℕ)
   -- The index gets heavier by what is put at most; a group has five nodes at most.
   pub grown : HasGrown geo (nodes_added before caller op reply) (nodes_for before caller op) before after
   pub few : nodes_for before caller op ≤ 5
+  -- What is done had room for what it asks, with the reserve of its class.
+  pub admitted : IsAdmittedLine geo before caller op reply after
 
 -- a caller's line: the reply to it, under the next number
 pub record IsLineServed (geo : RawGeometry) (before : ScriptRunning) (caller : ℕ) (op : Op) (text : List ℕ) (after : ScriptRunning) : Type 0 where

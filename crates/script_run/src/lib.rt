@@ -20,5 +20,6 @@ mod whole;
 pub use crate::law::{
     a_first_file_is_made, a_first_file_is_made_beside_a_worker, a_phase_is_legal,
     a_script_of_one_caller_is_a_run, what_has_room_is_not_refused_for_want_of_it,
+    what_names_fill_takes_no_more, what_only_looks_takes_no_room,
 };
 pub use crate::whole::{Played, Run, play};

@@ -1,18 +1,21 @@
-use Rattle.std.proofs.Common.{◌+◌, ◌++◌, ap, arith, length, refl, sym, subst, ◌∙◌}
+use Rattle.std.proofs.Common.{◌+◌, ◌*◌, ◌≤◌, ◌++◌, ap, arith, length, refl, sym, subst, ◌∙◌}
 use Rattle.std.specs.Prelude.{if◌then◌else◌}
+use Rattle.ubifs_base.specs.declared.raw_geometry.RawGeometry.{RawGeometry}
 use Rattle.ubifs_base.specs.RawOf.{raw_of}
 use Rattle.fs_model.specs.declared.reply.Reply.{Reply}
 use Rattle.fs_model.specs.Backing.{next_orphans, orphan_room}
 use Rattle.fs_model.specs.Orphan.{leaves_orphan}
+use Rattle.plain_backing.specs.Covering.{leaf_count}
 use Rattle.plain_backing.specs.PlainBacking.{backing_state_of}
 use Rattle.vfs_ops.specs.declared.event.Event.TheVariants.{Call}
 use Rattle.vfs_ops.specs.declared.event.Outcome.{Outcome}
-use Rattle.vfs_ops.specs.Events.{IsBufferedCall}
+use Rattle.vfs_ops.specs.Events.{IsAdmittedCall, IsBufferedCall}
 use Rattle.vfs_ops.specs.Passing.{IsStep}
 use Rattle.vfs_ops.specs.Steps.{Passage, asked, no_space_in}
 use Rattle.traced_files.proofs.Answering.{allowed_done}
 use Rattle.script_run.specs.Run.{script_line_of, nodes_added, nodes_for, orphans_told}
 use Rattle.script_run.specs.Sessions.{mounted_over}
+use Rattle.script_run.proofs.Admitting.{admitted_of}
 use Rattle.script_run.proofs.Answering.{answer_of, asks_of, exact_of, grows_of, issued_of, no_room, reply_of, steady_next, told_of, weighed_of, written_of}
 use Rattle.script_run.proofs.AtOnce.{over}
 use Rattle.script_run.proofs.Growth.{grown_of}
@@ -79,6 +82,17 @@ returns-clause-replied c =
       grown = grown_of old new before after c.args.now (nodes_added was c.args.caller c.args.op reply) (nodes_for was c.args.caller c.args.op) _
           (weighed_of passage c.args.caller c.args.now c.args.op c.step-outcome.result reply left is step.weighed) step.goes (omega arith);
       few = few_asked was.files c.args.caller c.args.now c.args.op c.args.fs.now.ready.sound;
+      admitted = admitted_of geo (backing_state_of old) (backing_state_of new) before c.args.caller c.args.now c.args.op reply
+          (record {
+            fits = c.args.fs.now.ready.kept_fits;
+            geometry = refl;
+            main = refl;
+            used = refl;
+            credits = c.requires.steady.credits;
+            leaves = subst (λ (g : RawGeometry). leaf_count (backing_state_of new).tree ≤ g.fanout * (backing_state_of new).space.weight) steady.geometry steady.covers.weighed;
+            goes = step.goes;
+          })
+          (subst (λ (o : Outcome). IsAdmittedCall (backing_state_of old) (backing_state_of new) before (Call c.args.caller c.args.now 0 c.args.op) o) is step.admitted);
     }
 
 pub parts_of-told-requires : goal.parts_of-told-requires
