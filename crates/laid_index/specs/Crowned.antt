@@ -18,7 +18,7 @@ pub record IsRowLaid (geo : RawGeometry) (sqnum levels : ℕ) (leaves : List Lea
   pub number : leb.sqnum ≡ sqnum + length (all_nodes row)
   pub holds_leaves : leaves_in (plain row) ≡ leaves
 
--- Above each row of these siblings that is laid, a root is laid, and nodes of these lengths were: the row got so much heavier.
+-- Over each row of these siblings that is laid, a root is laid, by nodes of these lengths. The index weighs so much more than the row.
 pub record IsCrowned (geo : RawGeometry) (levels : ℕ) (siblings : List Branch) (lens : List ℕ) (old : OpenLeb) (was : ℕ → List ℕ) (root : Branch) (new : OpenLeb) (now : ℕ → List ℕ) : Type 0 where
   pub is_open : IsLebOpen geo new now
   pub first : new.first ≡ old.first

@@ -56,7 +56,7 @@ pub fn a_phase_is_legal()
     ensures { (geo : Raw) (before after : ScriptRunning) (lines : List CallerLine) (text : List ℕ) → (phase : AreServedTogether geo before lines text after) → IsLegal (opened_on geo (callers_in lines) before) phase.trace (left_by geo before phase.trace after) }
 {}
 
-/// However many lines of a phase only look, they take no room. A refusal for want of room behind such lines alone tells no less than there is beside
+/// However many lines of a phase neither write nor have a group, they make the index no heavier. A refusal for want of room behind such lines alone tells no less than there is beside
 /// the index on which the phase opened, with what the refused line's operation may add.
 pub fn what_only_looks_takes_no_room()
     ensures { (geo : Raw) (before after : ScriptRunning) (lines : List CallerLine) (text : List ℕ) (phase : AreServedTogether geo before lines text after) (first : List TraceLine) (line : TraceLine) (rest : List TraceLine) (sides : NoSpace) →

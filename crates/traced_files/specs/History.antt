@@ -100,11 +100,11 @@ index_growth_by op = if is_write op || has_group op then 5 + 2 * pages_in op els
 abbrev pub grown_weight : Opening → List TraceLine → ℕ
 grown_weight opening lines = opening.space.weight + 2 * opening.dirty + sum_by (λ line. index_growth_by line.op) lines
 
--- the place behind these lines, on the files that they leave
+-- the place behind these lines, on the files that they leave; of orphans it tells nothing
 abbrev pub place_after : Opening → List TraceLine → Place
 place_after opening lines = record (first_place opening) { before = lines; files = files_behind opening.files lines }
 
--- A refusal for want of room tells no less room than there is beside an index that is as heavy as the lines up to it may make it. What only looks makes it no heavier.
+-- A refusal for want of room tells no less room than is left by the credits that others may hold, and by an index as heavy as it and the lines before it may make it. What neither writes nor has a group makes it no heavier.
 abbrev pub IsRoomTold : Opening → Place → TraceLine → Type 0
 IsRoomTold opening place line =
     (sides : NoSpace) → line.reply ≡ Refused (Enospc sides) → least_room opening (grown_weight opening (place.before ++ line ∷ [])) (most_asked opening place line) ≤ sides.room

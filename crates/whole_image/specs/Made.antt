@@ -28,14 +28,14 @@ use Rattle.made_image.specs.declared.filled_main.FilledMain.{FilledMain}
 use Rattle.whole_image.specs.declared.make_fault.MakeFault.{MakeFault}
 use Rattle.whole_image.specs.declared.make_fault.MakeFault.TheVariants.{Memory, Unreserved, Nameless, Attribute, Full, Crowded}
 
--- What a mount counts of an image of this tree: the LEBs of an index of full nodes, what that weighs, and all LEBs beside these and those of the leaves, which take LEBs as long as they fit, as empty.
+-- What a mount counts of an image of this tree. Its index has full nodes, but for the last of a level. Its leaves take as few LEBs as they can in their order, and all other LEBs are empty.
 pub record IsMadeSpace (geo : RawGeometry) (tree : Tree) (space : Space) : Type 0 where
   pub index : space.index ≡ length (index_used geo (length (live_leaves tree)))
   pub empty : space.empty + length (packed_leaves geo.leb_size 0 (live_leaves tree)) + space.index ≡ main_lebs geo
   pub weight : space.weight ≡ laid_weight geo tree
 
 -- The contents are the live nodes of this tree, an index of them, and what is laid around both, with this identifier. That is a sound image of this geometry. No
--- bud holds a node, the tree is the one that is stored of this one, and its space is that of such a tree.
+-- bud holds a node, the tree is the one that is stored of this one, and a mount counts what `IsMadeSpace` says.
 pub record IsMadeImage (contents : ℕ → List ℕ) (geo : RawGeometry) (uuid : List ℕ) (tree : Tree) : Type 0 where
   pub main : FilledMain
   pub placed : PlacedRow
