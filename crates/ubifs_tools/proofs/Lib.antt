@@ -6,3 +6,4 @@ pub mod Performing
 pub mod Readings
 pub mod Sequel
 pub mod MadeImages
+pub mod Mounted

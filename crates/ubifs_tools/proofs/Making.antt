@@ -11,6 +11,7 @@ use Rattle.script_text.specs.declared.fault.TextFault.TheVariants.{Memory, Line}
 use Rattle.script_text.specs.declared.manifest.Manifest.{Manifest}
 use Rattle.script_text.specs.Script.{OnLine}
 use Rattle.fs_model.specs.Files.{Tree}
+use Rattle.fs_model.specs.Proper.{IsProper}
 use Rattle.manifest_tree.specs.ManifestTree.{IsFirstBadTreeLine}
 use Rattle.whole_image.specs.Made.{packed_geometry, packed_lebs}
 use Rattle.io_edges.specs.Keeper.{KeeperState, SameFiles, SetsFile}
@@ -26,47 +27,49 @@ bad_tree Memory text line word e bad told never = absurd (never refl)
 bad_tree (Line number) text line word e bad told never = record { number = number; bad = bad; line_is = told ∙ ap (λ w. bad_line w number) e }
 
 -- what was made of a tree is what was made of the text, if it doesn't say `packed`
-pub made_of : (files : KeeperState) (text : List ℕ) (volume : Manifest) (tree : Tree) (raw : RawGeometry) (made_volume : MadeVolume) → IsFilledManifest files text volume tree → IsGeometry raw → raw ≡ manifest_geometry volume → volume.packed ≡ false → 24 ≤ volume.main
+pub made_of : (files : KeeperState) (text : List ℕ) (volume : Manifest) (tree : Tree) (raw : RawGeometry) (made_volume : MadeVolume) → IsFilledManifest files text volume tree → IsProper tree → IsGeometry raw → raw ≡ manifest_geometry volume → volume.packed ≡ false → 24 ≤ volume.main
     → IsImageMade raw tree made_volume → IsVolumeMade files text made_volume
-made_of files text volume tree raw (BadGeometry line) is ranges e plain main made =
+made_of files text volume tree raw (BadGeometry line) is proper ranges e plain main made =
     record { volume = volume; tree = tree; is = is; why = inr (inr (inr (subst (λ g. IsGeometry g) e ranges, plain, main, subst (λ g. IsImageMade g tree (BadGeometry line)) e made))) }
-made_of files text volume tree raw (Done told volume_made) is ranges e plain main made =
+made_of files text volume tree raw (Done told volume_made) is proper ranges e plain main made =
     let both = subst (λ g. IsImageMade g tree (Done told volume_made)) e made in
     let same : made_geometry volume tree ≡ manifest_geometry volume = rw plain refl in record {
       volume = volume;
       tree = tree;
       is = is;
+      proper = proper;
       geometry = subst (λ g. IsGeometry g) e ranges;
       roomy = λ _. (main, both.0);
       made = subst (λ g. IsToldImage g tree told.items (volume_image volume_made)) (sym same) both.1;
     }
 
 -- and if it says so
-pub packed_of : (files : KeeperState) (text : List ℕ) (volume : Manifest) (tree : Tree) (raw : RawGeometry) (made_volume : MadeVolume) → IsFilledManifest files text volume tree → IsGeometry raw → raw ≡ manifest_geometry volume → IsTrue volume.packed
+pub packed_of : (files : KeeperState) (text : List ℕ) (volume : Manifest) (tree : Tree) (raw : RawGeometry) (made_volume : MadeVolume) → IsFilledManifest files text volume tree → IsProper tree → IsGeometry raw → raw ≡ manifest_geometry volume → IsTrue volume.packed
     → IsPackedMade raw tree made_volume → IsVolumeMade files text made_volume
-packed_of files text volume tree raw (BadGeometry line) is ranges e packed made =
+packed_of files text volume tree raw (BadGeometry line) is proper ranges e packed made =
     record { volume = volume; tree = tree; is = is; why = inr (inl (subst (λ g. IsGeometry g) e ranges, packed, subst (λ g. IsPackedMade g tree (BadGeometry line)) e made)) }
-packed_of files text volume tree raw (Done told volume_made) is ranges e packed made =
+packed_of files text volume tree raw (Done told volume_made) is proper ranges e packed made =
     let there = subst (λ g. IsPackedMade g tree (Done told volume_made)) e made in
     let same : made_geometry volume tree ≡ packed_geometry (manifest_geometry volume) tree = rw packed refl in record {
       volume = volume;
       tree = tree;
       is = is;
+      proper = proper;
       geometry = subst (λ g. IsGeometry g) e ranges;
       roomy = λ plain. absurd (false≢true (sym plain ∙ packed));
       made = subst (λ g. IsToldImage g tree told.items (volume_image volume_made)) (sym same) there;
     }
 
 -- the same of a call's answer
-pub all_made : {E : Type 0} (r : Result MadeVolume E) (files : KeeperState) (text : List ℕ) (volume : Manifest) (tree : Tree) (raw : RawGeometry) → IfOk r (IsImageMade raw tree) → IsFilledManifest files text volume tree → IsGeometry raw → raw ≡ manifest_geometry volume
+pub all_made : {E : Type 0} (r : Result MadeVolume E) (files : KeeperState) (text : List ℕ) (volume : Manifest) (tree : Tree) (raw : RawGeometry) → IfOk r (IsImageMade raw tree) → IsFilledManifest files text volume tree → IsProper tree → IsGeometry raw → raw ≡ manifest_geometry volume
     → volume.packed ≡ false → 24 ≤ volume.main → IfOk r (IsVolumeMade files text)
-all_made (Ok made_volume) files text volume tree raw made is ranges e plain main = made_of files text volume tree raw made_volume is ranges e plain main made
-all_made (Err fault) files text volume tree raw made is ranges e plain main = tt
+all_made (Ok made_volume) files text volume tree raw made is proper ranges e plain main = made_of files text volume tree raw made_volume is proper ranges e plain main made
+all_made (Err fault) files text volume tree raw made is proper ranges e plain main = tt
 
-pub all_packed : {E : Type 0} (r : Result MadeVolume E) (files : KeeperState) (text : List ℕ) (volume : Manifest) (tree : Tree) (raw : RawGeometry) → IfOk r (IsPackedMade raw tree) → IsFilledManifest files text volume tree → IsGeometry raw → raw ≡ manifest_geometry volume
+pub all_packed : {E : Type 0} (r : Result MadeVolume E) (files : KeeperState) (text : List ℕ) (volume : Manifest) (tree : Tree) (raw : RawGeometry) → IfOk r (IsPackedMade raw tree) → IsFilledManifest files text volume tree → IsProper tree → IsGeometry raw → raw ≡ manifest_geometry volume
     → IsTrue volume.packed → IfOk r (IsVolumeMade files text)
-all_packed (Ok made_volume) files text volume tree raw made is ranges e packed = packed_of files text volume tree raw made_volume is ranges e packed made
-all_packed (Err fault) files text volume tree raw made is ranges e packed = tt
+all_packed (Ok made_volume) files text volume tree raw made is proper ranges e packed = packed_of files text volume tree raw made_volume is proper ranges e packed made
+all_packed (Err fault) files text volume tree raw made is proper ranges e packed = tt
 
 -- a volume of just as many main LEBs as a tree takes has them
 packed_counts : (geo : RawGeometry) (tree : Tree) → packed_lebs (packed_geometry geo tree) tree ≡ main_lebs (packed_geometry geo tree)

@@ -97,7 +97,7 @@ unread_behind old mid new manifest image text line stay more read unread =
 -- what was made over the keeper behind a reading was made over the one before it
 pub made_before : (old mid : KeeperState) (text told image : List ℕ) → FilesStay old mid → IsMadeOf mid text told image → IsMadeOf old text told image
 made_before old mid text told image stay made =
-    record { volume = made.volume; tree = made.tree; is = filled_before old mid text made.volume made.tree stay made.is; geometry = made.geometry; roomy = made.roomy; made = made.made }
+    record { volume = made.volume; tree = made.tree; is = filled_before old mid text made.volume made.tree stay made.is; proper = made.proper; geometry = made.geometry; roomy = made.roomy; made = made.made }
 
 pub no_image_before : (old mid : KeeperState) (text line : List ℕ) → FilesStay old mid → HasNoImage mid text line → HasNoImage old text line
 no_image_before old mid text line stay none =

@@ -69,7 +69,7 @@ same_owner tree b =
     ∙ sym (is_some-lookup (is_at (nat_cmp b.0.0)) tree.inodes)
 
 -- so each block's inode is there
-stored_owned : (tree : Tree) → IsTrue (list_all (λ b. is_some (inode_at (stored_tree tree) b.0.0)) (stored_tree tree).blocks)
+pub stored_owned : (tree : Tree) → IsTrue (list_all (λ b. is_some (inode_at (stored_tree tree) b.0.0)) (stored_tree tree).blocks)
 stored_owned tree = kept_pass (is_owned tree) (λ b. is_some (inode_at (stored_tree tree) b.0.0)) (same_owner tree) tree.blocks
 
 -- an image doesn't begin as a manifest does

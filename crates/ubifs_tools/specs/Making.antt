@@ -78,11 +78,12 @@ abbrev pub IsPackedMade : RawGeometry → Tree → MadeVolume → Type 0
 IsPackedMade geo tree (on_volume.BadGeometry line) = IsOutOfRange (packed_geometry geo tree) line.items
 IsPackedMade geo tree (on_volume.Done told made) = IsToldImage (packed_geometry geo tree) tree told.items (volume_image made)
 
--- The text is a manifest whose files were read, and an image of its tree was made. If it doesn't say `packed`, it has 24 main LEBs at least, and admission takes the tree.
+-- The text is a manifest whose files were read, and an image of its tree, which is proper, was made. If it doesn't say `packed`, it has 24 main LEBs at least, and admission takes the tree.
 pub record IsMadeOf (files : KeeperState) (text told image : List ℕ) : Type 0 where
   pub volume : Manifest
   pub tree : Tree
   pub is : IsFilledManifest files text volume tree
+  pub proper : IsProper tree
   pub geometry : IsGeometry (manifest_geometry volume)
   pub roomy : volume.packed ≡ false → (24 ≤ volume.main) × IsTreeAdmitted (manifest_geometry volume) tree
   pub made : IsToldImage (made_geometry volume tree) tree told image

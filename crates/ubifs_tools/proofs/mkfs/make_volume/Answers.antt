@@ -15,8 +15,8 @@ returns-in-Err c = λ files text is. record {
 
 pub returns-then-volume : goal.returns-then-volume
 returns-then-volume c = λ files text is. all_packed c.packed_image.result files text c.args.made.now.volume c.args.made.now.tree (raw_of c.in-Ok.geometry) c.packed_image.ensures
-    is c.in-Ok.geometry.in_range (c.in-Ok.ensures.fields ∙ c.plain-raw.ensures) c.if-volume.true
+    is c.requires.proper c.in-Ok.geometry.in_range (c.in-Ok.ensures.fields ∙ c.plain-raw.ensures) c.if-volume.true
 
 pub returns : goal.returns
 returns c = λ files text is. all_made c.admitted_image.result files text c.args.made.now.volume c.args.made.now.tree (raw_of c.in-Ok.geometry) c.admitted_image.ensures
-    is c.in-Ok.geometry.in_range (c.in-Ok.ensures.fields ∙ c.plain-raw.ensures) c.if-volume.false (omega arith)
+    is c.requires.proper c.in-Ok.geometry.in_range (c.in-Ok.ensures.fields ∙ c.plain-raw.ensures) c.if-volume.false (omega arith)
