@@ -4,7 +4,7 @@ ghost use Rattle.std.specs.Prelude.{◌≡◌, ◌≤◌, ◌∷◌, [], ◌-◌
 ghost use Rattle.index_media.specs.KeyedRow.{bare};
 ghost use Rattle.index_tree.specs.Shape.{node, done, node_count};
 ghost use Rattle.node_table.specs.Dirty.{dirty_lists, dirty_among, dirty_from};
-ghost use Rattle.table_nodes.specs.NodeView.{views, row_of, children_in};
+ghost use Rattle.table_nodes.specs.NodeView.{node_views, row_of, children_in};
 ghost use Rattle.index_cache.specs.Paged.{dirty_of};
 
 use crate::paged::PagedIndex;
@@ -30,7 +30,7 @@ impl PagedIndex {
 #[cycle(counting)]
 fn count_at(table: &NodeTable, number: u64) -> u64
     ensures number { result ≡ min (length (dirty_from table.now.nodes.items number)) (2 ^ 64 - 1) }
-    ensures most { length (dirty_from table.now.nodes.items number) ≤ node_count (node (bare (children_in (slice_get (views table.now.nodes.items) number))) done) }
+    ensures most { length (dirty_from table.now.nodes.items number) ≤ node_count (node (bare (children_in (slice_get (node_views table.now.nodes.items) number))) done) }
 {
     match table.node_at(number) {
         None => 0,
@@ -47,7 +47,7 @@ fn count_at(table: &NodeTable, number: u64) -> u64
 #[cycle(counting)]
 fn count_among(table: &NodeTable, links: &[Link]) -> u64
     ensures number { result ≡ min (length (dirty_among (dirty_lists table.now.nodes.items) links.now)) (2 ^ 64 - 1) }
-    ensures most { length (dirty_among (dirty_lists table.now.nodes.items) links.now) ≤ node_count (bare (row_of (views table.now.nodes.items) links.now)) }
+    ensures most { length (dirty_among (dirty_lists table.now.nodes.items) links.now) ≤ node_count (bare (row_of (node_views table.now.nodes.items) links.now)) }
 {
     match links.split_first() {
         None => 0,
@@ -64,7 +64,7 @@ fn count_among(table: &NodeTable, links: &[Link]) -> u64
 #[tactic(auto, using(crate::proofs::DirtyCounted::node_most))]
 fn count_link(table: &NodeTable, link: &Link) -> u64
     ensures number { result ≡ min (length (dirty_among (dirty_lists table.now.nodes.items) (link.now ∷ []))) (2 ^ 64 - 1) }
-    ensures most { length (dirty_among (dirty_lists table.now.nodes.items) (link.now ∷ [])) ≤ node_count (bare (row_of (views table.now.nodes.items) (link.now ∷ []))) }
+    ensures most { length (dirty_among (dirty_lists table.now.nodes.items) (link.now ∷ [])) ≤ node_count (bare (row_of (node_views table.now.nodes.items) (link.now ∷ []))) }
 {
     match *link {
         Link::ToLeaf(_) => 0,

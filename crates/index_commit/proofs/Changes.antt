@@ -22,7 +22,7 @@ use Rattle.index_media.specs.PlacedRow.{PlacedRow, ended, leaf_at, node_at, Stre
 use Rattle.index_media.specs.Standing.{OfClean, OfCleanNodes, StandsAs}
 use Rattle.index_media.specs.Stored.{AreStored, IsIndexNodeAt}
 use Rattle.media_sys.specs.declared.branch.Branch.{Branch}
-use Rattle.node_table.specs.Changing.{changed}
+use Rattle.node_table.specs.Changing.{changed_row}
 use Rattle.node_table.specs.Exchange.{tree_without}
 use Rattle.node_table.specs.declared.change.Change.{Change}
 use Rattle.node_table.specs.declared.change.Change.TheVariants.{Insert, Remove, RemoveRange, Replace}
@@ -157,7 +157,7 @@ without_range_clean stay P f from to row g h = collapsed_clean P (pruned_by_keys
 
 -- ---- any change
 pub change_keeps : RowsStay → (f : ℕ) (change : Change) (contents : ℕ → List ℕ) (lebs : List ℕ) (row : KeyedRow) → fits f (bare row) ≡ true → AreOutside contents lebs row
-    → AreOutside contents lebs (changed f change row)
+    → AreOutside contents lebs (changed_row f change row)
 change_keeps stay f (Insert x) contents lebs row g h = with_leaf_clean (StandsAs contents (IsOutside lebs)) f x row h
 change_keeps stay f (Remove x) contents lebs row g h = without_clean (StandsAs contents (IsOutside lebs)) x row h
 change_keeps stay f (Replace gone come) contents lebs row g h = replaced_clean (StandsAs contents (IsOutside lebs)) gone come row h

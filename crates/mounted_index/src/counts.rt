@@ -3,7 +3,7 @@
 ghost use Rattle.std.specs.Prelude.{◌≡◌, ◌+◌, IfOk, if◌then◌else◌, nat_le};
 ghost use Rattle.index_media.specs.KeyedRow.{KeyedRow, bare};
 ghost use Rattle.index_media.specs.PlacedRow.{PlacedRow, branches_of, ended, node_at, plain};
-ghost use Rattle.node_cache.specs.Loaded.{IsIndexOn, IsRead, IsRowOn};
+ghost use Rattle.node_cache.specs.Loaded.{IsIndexOn, IsReadOnlyCall, IsRowOn};
 ghost use Rattle.mounted_index.specs.Shown.{KeepsShown, Shows};
 ghost use Rattle.mounted_index.specs.Sizes.{IsSizeOf};
 
@@ -65,7 +65,7 @@ fn size_below<V: Volume>(
     requires row { (row : PlacedRow) × IsRowOn (V.state volume.old) fanout (level + 1) (node_at branch.now row ended) }
     ensures counted { (row : PlacedRow) → IsRowOn (V.state volume.old) fanout (level + 1) (node_at branch.now row ended)
         → IfOk result (λ size. IsSizeOf fanout (plain (node_at branch.now row ended)) size) }
-    ensures reads { IsRead (V.state volume.old) (V.state volume.new) result }
+    ensures reads { IsReadOnlyCall (V.state volume.old) (V.state volume.new) result }
 {
     let node = read_node(alloc, volume, branch)?;
     let branches = node.branches.as_slice();
@@ -86,7 +86,7 @@ fn size_among<V: Volume>(
     requires row { (row : PlacedRow) × (branches_of row ≡ branches.now) × IsRowOn (V.state volume.old) fanout levels row }
     ensures counted { (row : PlacedRow) → branches_of row ≡ branches.now → IsRowOn (V.state volume.old) fanout levels row
         → IfOk result (λ size. IsSizeOf fanout (plain row) size) }
-    ensures reads { IsRead (V.state volume.old) (V.state volume.new) result }
+    ensures reads { IsReadOnlyCall (V.state volume.old) (V.state volume.new) result }
 {
     if levels == 0 {
         return Ok(IndexSize {
@@ -117,7 +117,7 @@ fn size_from<V: Volume>(
 ) -> Result<IndexSize, AreaFault>
     requires index { (placed : PlacedRow) × IsIndexOn (V.state volume.old) fanout root.now placed }
     ensures counted { (placed : PlacedRow) → IsIndexOn (V.state volume.old) fanout root.now placed → IfOk result (λ size. IsSizeOf fanout (plain placed) size) }
-    ensures reads { IsRead (V.state volume.old) (V.state volume.new) result }
+    ensures reads { IsReadOnlyCall (V.state volume.old) (V.state volume.new) result }
 {
     let node = read_node(alloc, volume, root)?;
     size_below(alloc, volume, root, node.level, fanout)
@@ -132,7 +132,7 @@ impl MountedIndex {
         requires shown { (row : KeyedRow) × Shows (V.state volume.old) self.old row }
         ensures size { (row : KeyedRow) → Shows (V.state volume.old) self.old row
             → IfOk result (λ size. IsSizeOf self.old.geometry.fanout (bare row) size) }
-        ensures reads { IsRead (V.state volume.old) (V.state volume.new) result }
+        ensures reads { IsReadOnlyCall (V.state volume.old) (V.state volume.new) result }
         ensures kept { KeepsShown (V.state volume.old) (V.state volume.new) self.old self.new }
         ensures nodes { self.new.nodes ≡ self.old.nodes }
     {

@@ -11,8 +11,8 @@ use Rattle.index_media.specs.KeyedRow.{bare}
 use Rattle.table_nodes.specs.Beyond.{is_loaded}
 use Rattle.table_nodes.specs.BeyondLaws.{loaded_row}
 use Rattle.node_table.specs.Counting.{counts_of, counts_of_all}
-use Rattle.table_nodes.specs.NodeView.{NodeView, row_of, view_of, views, children_in}
-use Rattle.table_nodes.specs.Links.{IsAdded}
+use Rattle.table_nodes.specs.NodeView.{NodeView, row_of, node_view_of, node_views, children_in}
+use Rattle.table_nodes.specs.Links.{AreNodesAdded}
 use Rattle.node_table.specs.declared.counts.TreeCounts.{TreeCounts}
 use Rattle.table_nodes.specs.declared.link.Link.{Link}
 use Rattle.table_nodes.specs.declared.node.TableNode.{TableNode}
@@ -30,11 +30,11 @@ pub counted_long : (f : ℕ) (seen : List NodeView) → length (counts_of_all f 
 counted_long f [] = refl
 counted_long f (v ∷ seen) = let more = counted_long f seen in omega (arith, more)
 
-pub counted_past : (f : ℕ) (nodes : List TableNode) (i : ℕ) → 3 ≤ f → length (counts_of_all f (views nodes)) ≤ i
-    → record { nodes = 1; weight = 1 } ≡ counts_of f (children_in (slice_get (views nodes) i))
+pub counted_past : (f : ℕ) (nodes : List TableNode) (i : ℕ) → 3 ≤ f → length (counts_of_all f (node_views nodes)) ≤ i
+    → record { nodes = 1; weight = 1 } ≡ counts_of f (children_in (slice_get (node_views nodes) i))
 counted_past f nodes i three h =
-    let long = counted_long f (views nodes) in
-    let past = slice_get_past (views nodes) i (omega (arith, long, h)) in
+    let long = counted_long f (node_views nodes) in
+    let past = slice_get_past (node_views nodes) i (omega (arith, long, h)) in
     let few : nat_le f 0 ≡ false = grind (arith, nat_tests, three) in
     let P : Option NodeView → Type 0 = λ o. record { nodes = 1; weight = 1 } ≡ counts_of f (children_in o) in
     subst P (sym past) (rw few refl)
@@ -45,24 +45,24 @@ counted_more f [] v = refl
 counted_more f (w ∷ seen) v = ap (λ (cs : List TreeCounts). counts_of f w.children ∷ cs) (counted_more f seen v)
 
 pub after_both : (f : ℕ) (old new : List TableNode) (kept now : List TreeCounts) (n : TableNode) (own : TreeCounts) (b : Bool) → new ≡ (if b then old ++ n ∷ [] else old)
-    → now ≡ (if b then kept ++ own ∷ [] else kept) → kept ≡ counts_of_all f (views old) → own ≡ counts_of f (row_of (views old) n.links.items) → is_loaded n ≡ true
-    → now ≡ counts_of_all f (views new)
+    → now ≡ (if b then kept ++ own ∷ [] else kept) → kept ≡ counts_of_all f (node_views old) → own ≡ counts_of f (row_of (node_views old) n.links.items) → is_loaded n ≡ true
+    → now ≡ counts_of_all f (node_views new)
 after_both f old new kept now n own true e c k o l =
-    c ∙ ap (λ (cs : List TreeCounts). cs ++ own ∷ []) k ∙ ap (λ (x : TreeCounts). counts_of_all f (views old) ++ x ∷ []) (o ∙ ap (counts_of f) (sym (loaded_row (views old) n l)))
-    ∙ sym (counted_more f (views old) (view_of (views old) n)) ∙ ap (counts_of_all f) (sym (views_push old n)) ∙ ap (λ v. counts_of_all f (views v)) (sym e)
-after_both f old new kept now n own false e c k o l = c ∙ k ∙ ap (λ v. counts_of_all f (views v)) (sym e)
+    c ∙ ap (λ (cs : List TreeCounts). cs ++ own ∷ []) k ∙ ap (λ (x : TreeCounts). counts_of_all f (node_views old) ++ x ∷ []) (o ∙ ap (counts_of f) (sym (loaded_row (node_views old) n l)))
+    ∙ sym (counted_more f (node_views old) (node_view_of (node_views old) n)) ∙ ap (counts_of_all f) (sym (views_push old n)) ∙ ap (λ v. counts_of_all f (node_views v)) (sym e)
+after_both f old new kept now n own false e c k o l = c ∙ k ∙ ap (λ v. counts_of_all f (node_views v)) (sym e)
 
 -- the first nodes, with their numbers
 counted_first : (f : ℕ) (seen more : List NodeView) → take (length seen) (counts_of_all f (seen ++ more)) ≡ counts_of_all f seen
 counted_first f [] more = refl
 counted_first f (v ∷ seen) more = ap (λ (cs : List TreeCounts). counts_of f v.children ∷ cs) (counted_first f seen more)
 
-pub taken_both : (f : ℕ) (old mid new : List TableNode) (kept now : List TreeCounts) (n : ℕ) → IsAdded old mid → n ≡ length old → new ≡ old → kept ≡ counts_of_all f (views mid)
-    → now ≡ take n kept → now ≡ counts_of_all f (views new)
+pub taken_both : (f : ℕ) (old mid new : List TableNode) (kept now : List TreeCounts) (n : ℕ) → AreNodesAdded old mid → n ≡ length old → new ≡ old → kept ≡ counts_of_all f (node_views mid)
+    → now ≡ take n kept → now ≡ counts_of_all f (node_views new)
 taken_both f old mid new kept now n a e s k t =
     let p = views_added old mid a in
-    let long : n ≡ length (views old) = e ∙ sym (views_length old) in
-    t ∙ ap (λ m. take m kept) long ∙ ap (take (length (views old))) (k ∙ ap (counts_of_all f) p.1) ∙ counted_first f (views old) p.0 ∙ ap (λ v. counts_of_all f (views v)) (sym s)
+    let long : n ≡ length (node_views old) = e ∙ sym (views_length old) in
+    t ∙ ap (λ m. take m kept) long ∙ ap (take (length (node_views old))) (k ∙ ap (counts_of_all f) p.1) ∙ counted_first f (node_views old) p.0 ∙ ap (λ v. counts_of_all f (node_views v)) (sym s)
 
 -- a node's own numbers and those of the trees below it
 same_counts : (own : TreeCounts) (n w : ℕ) → own.nodes ≡ n → own.weight ≡ w → own ≡ record { nodes = n; weight = w }
@@ -90,5 +90,5 @@ pub counted_ok : (f : ℕ) (seen : List NodeView) (links : List Link) (weight : 
 counted_ok f seen links weight below (Ok own) n w b c d = counted_over f seen links own (record { nodes = 1; weight = weight }) below n w refl b c d
 counted_ok f seen links weight below (Err e) n w b c d = tt
 
-pub taken_back : (old mid : List TableNode) (n : ℕ) → IsAdded old mid → n ≡ length old → take n mid ≡ old
+pub taken_back : (old mid : List TableNode) (n : ℕ) → AreNodesAdded old mid → n ≡ length old → take n mid ≡ old
 taken_back old mid n a e = ap (λ k. take k mid) e ∙ ap (take (length old)) a.is ∙ take-append_seam old a.more

@@ -4,7 +4,7 @@ ghost use Rattle.std.specs.Prelude.{◌≡◌, ◌+◌, ◌++◌, ◌∷◌, [],
 ghost use Rattle.index_tree.specs.Shape.{node_count, shape_weight};
 ghost use Rattle.index_media.specs.KeyedRow.{bare};
 ghost use Rattle.node_table.specs.Counting.{counts_of};
-ghost use Rattle.table_nodes.specs.NodeView.{views, row_of, children_in, tree_at};
+ghost use Rattle.table_nodes.specs.NodeView.{node_views, row_of, children_in, tree_at};
 
 use crate::counts::TreeCounts;
 use crate::table::NodeTable;
@@ -63,7 +63,7 @@ pub fn truncate_both(nodes: &mut Vec<TableNode>, counts: &mut Vec<TreeCounts>, n
 impl NodeTable {
     /// The numbers of the tree of a node; a node that isn't there has no children.
     fn counts_at(&self, number: u64) -> TreeCounts
-        ensures { result ≡ counts_of self.now.fanout (children_in (slice_get (views self.now.nodes.items) number)) }
+        ensures { result ≡ counts_of self.now.fanout (children_in (slice_get (node_views self.now.nodes.items) number)) }
     {
         match self.counts.get(number as usize) {
             None => TreeCounts {
@@ -76,8 +76,8 @@ impl NodeTable {
 
     /// The numbers of the trees to which these links lead, all together.
     fn counts_among(&self, links: &[Link]) -> Result<TreeCounts, Memory>
-        ensures nodes { IfOk result (λ sum. sum.nodes ≡ node_count (bare (row_of (views self.now.nodes.items) links.now))) }
-        ensures weight { IfOk result (λ sum. sum.weight ≡ shape_weight self.now.fanout (bare (row_of (views self.now.nodes.items) links.now))) }
+        ensures nodes { IfOk result (λ sum. sum.nodes ≡ node_count (bare (row_of (node_views self.now.nodes.items) links.now))) }
+        ensures weight { IfOk result (λ sum. sum.weight ≡ shape_weight self.now.fanout (bare (row_of (node_views self.now.nodes.items) links.now))) }
     {
         match links.split_first() {
             None => Ok(TreeCounts {
@@ -96,7 +96,7 @@ impl NodeTable {
 
     /// The numbers of the tree of a node with these links.
     pub(crate) fn counts_over(&self, links: &[Link]) -> Result<TreeCounts, Memory>
-        ensures { IfOk result (λ own. own ≡ counts_of self.now.fanout (row_of (views self.now.nodes.items) links.now)) }
+        ensures { IfOk result (λ own. own ≡ counts_of self.now.fanout (row_of (node_views self.now.nodes.items) links.now)) }
     {
         let below = self.counts_among(links)?;
         let alone = TreeCounts {

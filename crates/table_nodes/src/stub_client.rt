@@ -4,8 +4,8 @@ ghost use Rattle.std.specs.Prelude.{◌≡◌, ◌+◌, ℕ, IfOk};
 ghost use Rattle.index_media.specs.KeyedRow.{no_more, all_clean};
 ghost use Rattle.index_media.specs.PlacedRow.{PlacedRow, ended, node_at};
 ghost use Rattle.node_cache.specs.Kept.{AreKept};
-ghost use Rattle.node_cache.specs.Loaded.{IsRead, IsRowOn};
-ghost use Rattle.table_nodes.specs.NodeView.{views};
+ghost use Rattle.node_cache.specs.Loaded.{IsReadOnlyCall, IsRowOn};
+ghost use Rattle.table_nodes.specs.NodeView.{node_views};
 ghost use Rattle.table_nodes.specs.Links.{row_before};
 
 use crate::link::Link;
@@ -35,8 +35,8 @@ pub fn open_on<V: Volume>(
     requires row { (fanout : ℕ) × (row : PlacedRow) × IsRowOn (V.state volume.old) fanout (level + 1) (node_at branch.now row ended) }
     requires kept { AreKept (V.state volume.old).holds cache.old }
     ensures shown { (fanout : ℕ) (row : PlacedRow) → IsRowOn (V.state volume.old) fanout (level + 1) (node_at branch.now row ended)
-        → IfOk result (λ opened. row_before (views opened.nodes.items) opened.links.items no_more ≡ all_clean row) }
-    ensures reads { IsRead (V.state volume.old) (V.state volume.new) result }
+        → IfOk result (λ opened. row_before (node_views opened.nodes.items) opened.links.items no_more ≡ all_clean row) }
+    ensures reads { IsReadOnlyCall (V.state volume.old) (V.state volume.new) result }
     ensures kept { AreKept (V.state volume.new).holds cache.new }
 {
     let told = see_medium(volume);

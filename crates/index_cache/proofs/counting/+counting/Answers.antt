@@ -3,7 +3,7 @@ use Rattle.std.specs.Prelude.{min}
 use Rattle.index_media.specs.KeyedRow.{KeyedRow, bare}
 use Rattle.index_tree.specs.Shape.{node_count}
 use Rattle.node_table.specs.Dirty.{dirty_lists, dirty_among}
-use Rattle.table_nodes.specs.NodeView.{views, row_of, children_in}
+use Rattle.table_nodes.specs.NodeView.{node_views, row_of, children_in}
 use Rattle.table_nodes.specs.declared.link.Link.{Link}
 use Rattle.node_table.proofs.Cleaning.{placed_list, dirty_list}
 use Rattle.node_table.proofs.DirtyLists.{dirty_opened, dirty_past}
@@ -24,7 +24,7 @@ count_at-returns-then-is_some-clause-number t c =
 
 pub count_at-count_among-requires : goal.count_at-count_among-requires
 count_at-count_among-requires t c =
-    let seen = views c.args.table.now.nodes.items in
+    let seen = node_views c.args.table.now.nodes.items in
     let same = ap (λ v. row_size (row_of seen v)) c.as_slice.ensures.value in
     let whole = ap row_size c.in-Some.ensures.linked in
     omega (arith, same, whole)
@@ -62,7 +62,7 @@ count_at-returns-else-is_some-clause-most t c =
     let s = c.args.table.now in
     let n = c.in-Some.node.now in
     let known = dirty_lists s.nodes.items in
-    let seen = views s.nodes.items in
+    let seen = node_views s.nodes.items in
     let below = dirty_among known n.links.items in
     let dirty = sym c.is_some.ensures ∙ c.if-is_some.false in
     let whole = dirty_opened s.fanout s.nodes.items c.args.number n s.sound c.in-Some.ensures.some ∙ dirty_list n.place c.args.number below dirty in
@@ -73,5 +73,5 @@ count_at-returns-else-is_some-clause-most t c =
 pub count_among-returns-in-Some-clause-most : goal.count_among-returns-in-Some-clause-most
 count_among-returns-in-Some-clause-most t c =
     let nodes = c.args.table.now.nodes.items in
-    both_most (dirty_lists nodes) (views nodes) c.args.links.now c.in-Some.rest.now c.in-Some.link.now
+    both_most (dirty_lists nodes) (node_views nodes) c.args.links.now c.in-Some.rest.now c.in-Some.link.now
     c.in-Some.ensures.cases.0 c.count_link-here.ensures.most c.count_among-behind.ensures.most

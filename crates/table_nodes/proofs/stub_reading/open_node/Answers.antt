@@ -4,7 +4,7 @@ use Rattle.media_sys.specs.Index.{Index}
 use Rattle.media_sys.specs.declared.branch.Branch.{Branch}
 use Rattle.rows_below.specs.RowBelow.{row_by}
 use Rattle.table_nodes.specs.Beyond.{contents_told}
-use Rattle.table_nodes.specs.NodeView.{views}
+use Rattle.table_nodes.specs.NodeView.{node_views}
 use Rattle.table_nodes.specs.Links.{row_before}
 use Rattle.table_nodes.proofs.stub_reading.open_node.Goals as goal
 
@@ -18,4 +18,4 @@ returns-clause-opened g c =
     let said = c.in_ok-node.ensures.said own.0 own.1 in
     let same = c.as_slice.ensures.value ∙ ap (λ (i : Index). i.branches) said ∙ own.2 in
     c.in_ok-open_branches.ensures.opened
-    ∙ ap (λ (l : List Branch). row_before (views c.args.nodes.now.items) c.args.links.now.items (all_clean (row_by (contents_told lebs) c.args.level l))) same
+    ∙ ap (λ (l : List Branch). row_before (node_views c.args.nodes.now.items) c.args.links.now.items (all_clean (row_by (contents_told lebs) c.args.level l))) same

@@ -4,7 +4,7 @@ use Rattle.table_nodes.specs.Beyond.{are_loaded}
 use Rattle.node_table.specs.Clean.{are_clean_below}
 use Rattle.node_table.specs.Dirty.{dirty_below}
 use Rattle.node_table.specs.Placing.{IsPlacedRow}
-use Rattle.table_nodes.specs.NodeView.{views, children_in, tree_at}
+use Rattle.table_nodes.specs.NodeView.{node_views, children_in, tree_at}
 use Rattle.table_nodes.specs.Sound.{AreSoundViews}
 use Rattle.node_table.specs.Staging.{IsSoundRoot}
 use Rattle.node_table.specs.Counting.{counts_of_all}
@@ -15,12 +15,12 @@ use Rattle.node_table.proofs.table.NodeTable.set_place.Goals as goal
 pub invariant_of-self-clause-sound : goal.invariant_of-self-clause-sound
 invariant_of-self-clause-sound c =
     let s = c.args.self.now in
-    subst (λ ns. AreSoundViews s.fanout (views ns)) (sym c.put_place.ensures) (table_placed s.fanout s.nodes.items c.args.number c.args.place s.sound s.clean s.loaded c.requires.ready).sound
+    subst (λ ns. AreSoundViews s.fanout (node_views ns)) (sym c.put_place.ensures) (table_placed s.fanout s.nodes.items c.args.number c.args.place s.sound s.clean s.loaded c.requires.ready).sound
 
 pub invariant_of-self-clause-clean : goal.invariant_of-self-clause-clean
 invariant_of-self-clause-clean c =
     let s = c.args.self.now in
-    ap (λ ns. are_clean_below (views ns)) c.put_place.ensures ∙ (table_placed s.fanout s.nodes.items c.args.number c.args.place s.sound s.clean s.loaded c.requires.ready).settled
+    ap (λ ns. are_clean_below (node_views ns)) c.put_place.ensures ∙ (table_placed s.fanout s.nodes.items c.args.number c.args.place s.sound s.clean s.loaded c.requires.ready).settled
 
 pub invariant_of-self-clause-loaded : goal.invariant_of-self-clause-loaded
 invariant_of-self-clause-loaded c =
@@ -30,12 +30,12 @@ invariant_of-self-clause-loaded c =
 pub invariant_of-self-clause-counted : goal.invariant_of-self-clause-counted
 invariant_of-self-clause-counted c =
     let s = c.args.self.now in
-    s.counted ∙ sym (ap (λ ns. counts_of_all s.fanout (views ns)) c.put_place.ensures ∙ (table_placed s.fanout s.nodes.items c.args.number c.args.place s.sound s.clean s.loaded c.requires.ready).counted)
+    s.counted ∙ sym (ap (λ ns. counts_of_all s.fanout (node_views ns)) c.put_place.ensures ∙ (table_placed s.fanout s.nodes.items c.args.number c.args.place s.sound s.clean s.loaded c.requires.ready).counted)
 
 pub returns-clause-trees : goal.returns-clause-trees
 returns-clause-trees c = λ root.
     let s = c.args.self.now in
-    let P : List TableNode → Type 0 = λ ns. IsPlacedRow c.args.place (children_in (slice_get (views s.nodes.items) c.args.number)) (tree_at s.nodes.items root) (tree_at ns root) in
+    let P : List TableNode → Type 0 = λ ns. IsPlacedRow c.args.place (children_in (slice_get (node_views s.nodes.items) c.args.number)) (tree_at s.nodes.items root) (tree_at ns root) in
     subst P (sym c.put_place.ensures) ((table_placed s.fanout s.nodes.items c.args.number c.args.place s.sound s.clean s.loaded c.requires.ready).trees root)
 
 pub returns-clause-dirty : goal.returns-clause-dirty

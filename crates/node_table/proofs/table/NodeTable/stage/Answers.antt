@@ -1,7 +1,7 @@
 use Rattle.std.proofs.Common.{arith, ◌≡◌, ◌∙◌, length, ap}
 use Rattle.table_nodes.specs.Beyond.{are_loaded}
 use Rattle.node_table.specs.Clean.{are_clean_below}
-use Rattle.table_nodes.specs.NodeView.{views}
+use Rattle.table_nodes.specs.NodeView.{node_views}
 use Rattle.node_table.proofs.Counted.{taken_both, taken_back}
 use Rattle.node_table.proofs.table.NodeTable.stage.Goals as goal
 
@@ -20,7 +20,7 @@ invariant_of-self-clause-clean c =
     let old = c.args.self.now.nodes.items in
     let same = c.len-number.ensures in
     let number : c.len-number.result ≡ length old = omega (arith, same) in
-    ap (λ v. are_clean_below (views v)) (c.truncate_both.ensures.nodes ∙ taken_back old c.stage_all.new.self.nodes.items c.len-number.result c.stage_all.ensures.added number)
+    ap (λ v. are_clean_below (node_views v)) (c.truncate_both.ensures.nodes ∙ taken_back old c.stage_all.new.self.nodes.items c.len-number.result c.stage_all.ensures.added number)
     ∙ c.args.self.now.clean
 
 pub invariant_of-self-clause-loaded : goal.invariant_of-self-clause-loaded
