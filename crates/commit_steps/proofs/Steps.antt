@@ -11,6 +11,7 @@ use Rattle.ubi_volume.specs.Volume.{SameShape, VolumeState}
 use Rattle.ubifs_base.specs.declared.raw_geometry.RawGeometry.{RawGeometry}
 use Rattle.index_commit.specs.Lebs.{AreLebsApart, AreGivable, IsGiven}
 use Rattle.index_commit.specs.declared.index_fault.IndexFault.{IndexFault}
+use Rattle.node_cache.specs.CleanRows.{all_is_clean}
 
 pub on_ok_more : {T : Type 0} {P Q : Type 0} (r : Result T IndexFault) → (P → Q) → OnOk r P → OnOk r Q
 on_ok_more (Ok x) f p = f p
@@ -86,11 +87,6 @@ given_since lnum rest lebs given now is all =
       | inr before ↦ elim before [ inl e ↦ inl e | inr old ↦ inr (given_behind rest given k old) ]
     ] in
     subst P (sym is) (All-weaker (IsGiven (rest ++ (lnum ∷ given))) (IsGiven (lnum ∷ (rest ++ given))) more now all)
-
-all_is_clean : (row : PlacedRow) → is_clean_row (all_clean row) ≡ true
-all_is_clean ended = refl
-all_is_clean (leaf_at x rest) = all_is_clean rest
-all_is_clean (node_at branch children rest) = rw (all_is_clean children, all_is_clean rest) refl
 
 pub clean_row : (row : KeyedRow) (placed : PlacedRow) → row ≡ all_clean placed → is_clean_row row ≡ true
 clean_row row placed e = ap is_clean_row e ∙ all_is_clean placed

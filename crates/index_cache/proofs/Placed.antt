@@ -55,8 +55,3 @@ none_clean ended branches e z = refl
 none_clean (leaf_at x rest) branches e z = let long = ap length e in absurd (omega (arith, long, z))
 none_clean (node_at b c rest) branches e z = let long = ap length e in absurd (omega (arith, long, z))
 
--- a row that stands on a medium is clean
-pub all_is_clean : (row : PlacedRow) → is_clean_row (all_clean row) ≡ true
-all_is_clean ended = refl
-all_is_clean (leaf_at x rest) = all_is_clean rest
-all_is_clean (node_at branch children rest) = rw (all_is_clean children, all_is_clean rest) refl

@@ -28,6 +28,7 @@ use Rattle.node_table.specs.declared.change.Change.{Change}
 use Rattle.node_table.specs.declared.change.Change.TheVariants.{Insert, Remove, RemoveRange, Replace}
 use Rattle.index_commit.specs.Lebs.{IsGiven}
 use Rattle.index_commit.specs.Standing.{AreOutside, IsOutside}
+use Rattle.node_cache.specs.CleanRows.{all_is_clean, placed_again}
 
 -- ---- insertions
 front_clean : (P : Key → Stretch → KeyedRow → Type 0) (n : ℕ) (row : KeyedRow) → OfCleanNodes P row → OfCleanNodes P (keyed_front n row)
@@ -164,16 +165,6 @@ change_keeps stay f (Replace gone come) contents lebs row g h = replaced_clean (
 change_keeps stay f (RemoveRange from to) contents lebs row g h = without_range_clean stay (StandsAs contents (IsOutside lebs)) f (key_rank from) (key_rank to) row g h
 
 -- ---- an index that stands
-all_is_clean : (row : PlacedRow) → is_clean_row (all_clean row) ≡ true
-all_is_clean ended = refl
-all_is_clean (leaf_at x rest) = all_is_clean rest
-all_is_clean (node_at branch children rest) = rw (all_is_clean children, all_is_clean rest) refl
-
-pub placed_again : (row : PlacedRow) → placed_of (all_clean row) ≡ row
-placed_again ended = refl
-placed_again (leaf_at x rest) = ap (leaf_at x) (placed_again rest)
-placed_again (node_at branch children rest) = rw (placed_again children, placed_again rest) refl
-
 stored_levels : (media : ℕ → List ℕ) (levels : ℕ) (row : PlacedRow) → AreStored media levels row → levelled levels (plain row) ≡ true
 unfolding AreStored
 stored_levels media levels ended h = refl

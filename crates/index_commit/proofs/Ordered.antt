@@ -23,8 +23,8 @@ use Rattle.index_commit.specs.Lebs.{IsGiven}
 use Rattle.index_commit.specs.Ordered.{AreKeysInOrder, IsNotEqualKeys}
 use Rattle.index_commit.specs.declared.index_fault.IndexFault.{IndexFault}
 use Rattle.index_commit.specs.declared.index_fault.IndexFault.TheVariants.{Memory, Full, EqualKeys, Volume}
-use Rattle.index_commit.proofs.Changes.{placed_again}
 use Rattle.index_commit.proofs.Lebs.{given_of}
+use Rattle.node_cache.specs.CleanRows.{placed_again}
 
 -- ---- what holds of each node of a row
 -- the keys in a node, if it is there, and in those below it are in order

@@ -23,7 +23,7 @@ use Rattle.index_cache.specs.Commit.{below_node, level_in, node_length, said_of}
 use Rattle.index_cache.specs.declared.paged.PagedIndex.{PagedIndex}
 use Rattle.index_commit.specs.Rooms.{Room, AreDistinctNumbers, AreInRooms, IsInRoom, IsNotAmong, place_by_number}
 use Rattle.index_commit.specs.Written.{AreFirstsTaken, IsIndexKept, node_links}
-use Rattle.index_commit.proofs.Standing.{clean_node}
+use Rattle.node_cache.specs.CleanRows.{clean_node}
 
 -- ---- what is seen of the nodes of a table
 abbrev level_seen : NodeView → ℕ

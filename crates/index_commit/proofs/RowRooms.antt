@@ -14,7 +14,7 @@ use Rattle.index_media.specs.KeyedRow.{KeyedRow, no_more, leaf_in, node_in, bare
 use Rattle.index_media.specs.PlacedRow.{Stretch}
 use Rattle.table_nodes.specs.Beyond.{are_loaded, is_loaded}
 use Rattle.table_nodes.specs.BeyondLaws.{loaded_row}
-use Rattle.node_table.specs.Clean.{are_clean_below, is_clean_below}
+use Rattle.table_nodes.specs.Clean.{are_clean_below, is_clean_below}
 use Rattle.node_table.specs.Dirty.{dirty_among, dirty_behind, dirty_below, dirty_from, dirty_lists, dirty_node}
 use Rattle.table_nodes.specs.NodeView.{NodeView, node_before, row_of, stretch_at, tree_at, node_view_of, node_views, views_behind}
 use Rattle.node_table.specs.Placing.{without_number}
@@ -29,7 +29,7 @@ use Rattle.index_cache.specs.declared.paged.PagedIndex.{PagedIndex}
 use Rattle.index_commit.specs.Rooms.{Room, AreDistinctNumbers, IsNotAmong, all_rooms, place_by_number, place_room, taken_room, rooms_of}
 use Rattle.index_commit.specs.Written.{AreFirstsTaken, IsIndexKept, IsIndexTaken, node_links}
 use Rattle.index_commit.proofs.Rooms.{node_kept}
-use Rattle.index_commit.proofs.Standing.{and_left, and_right, clean_node}
+use Rattle.node_cache.specs.CleanRows.{and_left, and_right, clean_node}
 
 -- ---- rooms that are given to dirty nodes
 -- each node without a room takes the next one of a list

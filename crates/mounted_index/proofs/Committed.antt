@@ -54,7 +54,7 @@ use Rattle.mounted_index.specs.declared.mounted.IndexNodes.{IndexNodes}
 use Rattle.mounted_index.specs.declared.mounted.IndexNodes.TheVariants.{OnMedium, InMemory}
 use Rattle.mounted_index.specs.declared.mounted.MountedIndex.{MountedIndex}
 use Rattle.mounted_index.proofs.Shown.{nodes_as, staged_as}
-use Rattle.mounted_index.specs.ShownLaws.{all_is_clean, placed_again}
+use Rattle.node_cache.specs.CleanRows.{all_is_clean, placed_again}
 
 givable_there : (n : ℕ) (lebs : List ℕ) → AreGivable n lebs → (k : ℕ) → IsGiven lebs k → k < n
 givable_there n [] h k given = absurd given

@@ -44,12 +44,13 @@ use Rattle.mounted_index.specs.Committed.{HasNodesFrom, IsRootOn}
 use Rattle.mounted_index.specs.Running.{IsAfterStep, IsCommitEnded, IsCommitOfNodes, IsCommitRunning, IsCommitStep, IsStepWritten, dirty_left}
 use Rattle.mounted_index.specs.RunningLaws.{StandsIn-running}
 use Rattle.mounted_index.specs.Shown.{KeepsOutside, KeepsShown, Shows, ShowsStaged, StandsIn, are_on_medium}
-use Rattle.mounted_index.specs.ShownLaws.{LoadedNodesStand, StandsIn-taken, all_is_clean, placed_again}
+use Rattle.mounted_index.specs.ShownLaws.{LoadedNodesStand, StandsIn-taken}
 use Rattle.mounted_index.specs.declared.mounted.IndexNodes.{IndexNodes}
 use Rattle.mounted_index.specs.declared.mounted.IndexNodes.TheVariants.{OnMedium, InMemory}
 use Rattle.mounted_index.specs.declared.mounted.MountedIndex.{MountedIndex}
 use Rattle.mounted_index.proofs.Committed.{if_ok_done, kept_shown, nodes_count, nodes_let_go, none_works, root_on, stands_after, stands_more}
 use Rattle.mounted_index.proofs.Shown.{nodes_as, staged_as}
+use Rattle.node_cache.specs.CleanRows.{all_is_clean, placed_again}
 
 -- an index with these nodes
 abbrev pub with_nodes : MountedIndex → IndexNodes → NodeCache → MountedIndex

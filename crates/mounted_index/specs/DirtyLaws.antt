@@ -11,7 +11,7 @@ use Rattle.index_media.specs.InsertionSound.{fit_node}
 use Rattle.index_media.specs.KeyedRow.{KeyedRow, no_more, leaf_in, node_in, all_clean, bare}
 use Rattle.index_media.specs.PlacedRow.{Stretch}
 use Rattle.table_nodes.specs.BeyondLaws.{dirty_row}
-use Rattle.node_table.specs.Clean.{are_clean_below, is_clean_below}
+use Rattle.table_nodes.specs.Clean.{are_clean_below, is_clean_below}
 use Rattle.node_table.specs.Dirty.{dirty_among, dirty_behind, dirty_below, dirty_lists, dirty_node}
 use Rattle.table_nodes.specs.NodeView.{NodeView, IsRootIn, node_before, row_of, stretch_at, tree_at, node_view_of, node_views, views_behind}
 use Rattle.table_nodes.specs.Sound.{AreSoundViews, IsSoundView}
@@ -25,10 +25,10 @@ use Rattle.index_cache.specs.declared.paged.PagedIndex.{PagedIndex}
 use Rattle.ubi_volume.specs.Volume.{VolumeState}
 use Rattle.mounted_index.specs.Committed.{dirty_nodes_in, dirty_one, nodes_to_write}
 use Rattle.mounted_index.specs.Shown.{IsRowOfNodes, Shows}
-use Rattle.mounted_index.specs.ShownLaws.{all_is_clean}
 use Rattle.mounted_index.specs.declared.mounted.IndexNodes.{IndexNodes}
 use Rattle.mounted_index.specs.declared.mounted.IndexNodes.TheVariants.{OnMedium, InMemory}
 use Rattle.mounted_index.specs.declared.mounted.MountedIndex.{MountedIndex}
+use Rattle.node_cache.specs.CleanRows.{all_is_clean}
 
 -- a row in which each node has a place has no dirty one
 clean_none : (row : KeyedRow) → is_clean_row row ≡ true → dirty_nodes_in row ≡ 0

@@ -8,7 +8,7 @@ use Rattle.ubifs_base.specs.declared.key.Key.{Key}
 use Rattle.index_media.specs.KeyedRow.{KeyedRow, no_more, node_in}
 use Rattle.table_nodes.specs.Beyond.{is_loaded, are_loaded}
 use Rattle.table_nodes.specs.BeyondLaws.{loaded_row}
-use Rattle.node_table.specs.Clean.{is_clean_below, are_clean_below}
+use Rattle.table_nodes.specs.Clean.{is_clean_below, are_clean_below}
 use Rattle.table_nodes.specs.NodeView.{node_before, row_of, node_view_of, stretch_at, node_views, tree_at, IsRootIn}
 use Rattle.table_nodes.specs.Sound.{IsSoundView, AreSoundViews}
 use Rattle.table_nodes.specs.declared.node.Root.{Root}

@@ -7,7 +7,8 @@ use Rattle.index_media.specs.Clean.{is_clean_row, node_branch, placed_of}
 use Rattle.index_media.specs.KeyedRow.{KeyedRow, no_more, leaf_in, node_in, all_clean}
 use Rattle.index_media.specs.PlacedRow.{Stretch}
 use Rattle.table_nodes.specs.BeyondLaws.{dirty_row}
-use Rattle.node_table.specs.Clean.{is_clean_node, is_clean_below, are_clean_below, IsReadyNode}
+use Rattle.node_table.specs.Clean.{is_clean_node, IsReadyNode}
+use Rattle.table_nodes.specs.Clean.{is_clean_below, are_clean_below}
 use Rattle.node_table.specs.Dirty.{dirty_node, dirty_among, dirty_lists, dirty_from}
 use Rattle.table_nodes.specs.NodeView.{NodeView, stretch_at, node_before, row_of, node_view_of, node_views, children_in, tree_at}
 use Rattle.node_table.specs.Pruning.{stretch_in}
@@ -18,8 +19,8 @@ use Rattle.table_nodes.specs.declared.node.NodePlace.{NodePlace}
 use Rattle.table_nodes.specs.declared.node.Root.{Root}
 use Rattle.table_nodes.specs.declared.node.TableNode.{TableNode}
 use Rattle.node_table.proofs.DirtyLists.{dirty_opened}
-use Rattle.node_table.proofs.GivenPlaces.{and_left, and_right, clean_node}
 use Rattle.table_nodes.specs.NodeViewLaws.{opened, views_length}
+use Rattle.node_cache.specs.CleanRows.{and_left, and_right, clean_node}
 
 -- a clean node before a row
 pub clean_before : (key : Key) (o : Option NodeView) (rest : KeyedRow) → is_clean_node o ≡ true → is_clean_row rest ≡ true → is_clean_row (node_before key o rest) ≡ true

@@ -14,7 +14,7 @@ use Rattle.index_media.specs.PlacedRow.{Stretch}
 use Rattle.told_value.specs.declared.told.Told.{Told}
 use Rattle.table_nodes.specs.Beyond.{children_by, is_loaded, are_loaded, row_told, branch_at_place}
 use Rattle.table_nodes.specs.BeyondLaws.{loaded_row}
-use Rattle.node_table.specs.Clean.{is_clean_below, are_clean_below}
+use Rattle.table_nodes.specs.Clean.{is_clean_below, are_clean_below}
 use Rattle.node_table.specs.Counting.{counts_of, counts_of_all}
 use Rattle.table_nodes.specs.NodeView.{NodeView, stretch_at, node_before, linked_before, row_of, node_view_of, views_behind, node_views, children_in, tree_at, IsRootIn}
 use Rattle.node_table.specs.Placing.{with_place, IsPlacedRow}
@@ -28,6 +28,7 @@ use Rattle.table_nodes.specs.declared.node.Root.{Root}
 use Rattle.table_nodes.specs.declared.node.TableNode.{TableNode}
 use Rattle.table_nodes.specs.declared.seen.MediumSeen.{MediumSeen}
 use Rattle.table_nodes.specs.NodeViewLaws.{get_seam, views_more}
+use Rattle.node_cache.specs.CleanRows.{and_left, and_right, clean_node}
 
 -- nothing but places changes of a row
 pub placed_same : (p : NodePlace) (b row : KeyedRow) → IsPlacedRow p b row row
@@ -64,21 +65,6 @@ placed_keys p b (node_in key old children rest) new h k =
     subst AreKeys (sym h.3) (k.0, placed_keys p b children h.1 h.5 k.1, placed_keys p b rest h.2 h.6 k.2)
 
 -- where all is clean, nothing changes
-pub and_left : (a b : Bool) → (a && b) ≡ true → a ≡ true
-and_left true b h = refl
-and_left false b h = absurd cc
-
-pub and_right : (a b : Bool) → (a && b) ≡ true → b ≡ true
-and_right true b h = h
-and_right false b h = absurd cc
-
--- a clean node of a row, what is below it, and what is behind it
-pub clean_node : (key : Key) (place : Option Stretch) (children rest : KeyedRow) → is_clean_row (node_in key place children rest) ≡ true
-    → (is_some place ≡ true) × (is_clean_row children ≡ true) × (is_clean_row rest ≡ true)
-clean_node key place children rest h =
-    let more = and_right (is_some place) (is_clean_row children && is_clean_row rest) h in
-    (and_left (is_some place) (is_clean_row children && is_clean_row rest) h, and_left (is_clean_row children) (is_clean_row rest) more, and_right (is_clean_row children) (is_clean_row rest) more)
-
 clean_place : (p : NodePlace) (b children : KeyedRow) (old now : Option Stretch) → is_some old ≡ true → (now ≡ old) ⊎ ((old ≡ None) × (now ≡ stretch_at (Some p)) × (children ≡ b)) → now ≡ old
 clean_place p b children None now s h = absurd cc
 clean_place p b children (Some x) now s (inl e) = e

@@ -3,7 +3,8 @@ use Rattle.std.proofs.Common.{◌≡◌, ℕ, zero, suc, ◌≤◌, ◌<◌, ◌
 use Rattle.std.specs.Prelude.{Option, Some, slice_get, slice_set}
 use Rattle.table_nodes.specs.Beyond.{are_loaded}
 use Rattle.table_nodes.specs.BeyondLaws.{loaded_at}
-use Rattle.node_table.specs.Clean.{are_clean_below, IsReadyNode}
+use Rattle.node_table.specs.Clean.{IsReadyNode}
+use Rattle.table_nodes.specs.Clean.{are_clean_below}
 use Rattle.node_table.specs.Counting.{counts_of_all}
 use Rattle.node_table.specs.Dirty.{dirty_below}
 use Rattle.table_nodes.specs.NodeView.{node_views, children_in, tree_at}

@@ -7,7 +7,7 @@ ghost use Rattle.index_tree.specs.RangeRemoval.{within_range};
 ghost use Rattle.index_tree.specs.Removal.{holds};
 ghost use Rattle.index_media.specs.KeyedRow.{no_more, node_in};
 ghost use Rattle.table_nodes.specs.Beyond.{is_loaded, are_loaded};
-ghost use Rattle.node_table.specs.Clean.{is_clean_below, are_clean_below};
+ghost use Rattle.table_nodes.specs.Clean.{is_clean_below, are_clean_below};
 ghost use Rattle.node_table.specs.Counting.{counts_of_all, counted-prop};
 ghost use Rattle.table_nodes.specs.NodeView.{node_views, node_view_of, row_of, stretch_at, tree_at, leaves_at, IsRootIn};
 ghost use Rattle.table_nodes.specs.Sound.{IsSoundView, AreSoundViews, sound_views-prop};

@@ -1,6 +1,7 @@
 -- Nodes that aren't loaded are added, and links to them show what they tell.
 use Rattle.std.proofs.Common.{◌≡◌, ℕ, zero, suc, ◌-◌, ◌<◌, List, [], ◌∷◌, ◌++◌, length, refl, ap, sym, ◌∙◌, subst, arith}
 use Rattle.std.specs.Prelude.{Option, Some}
+use Rattle.std.proofs.lemmas.List.Elements.{All-nil, All-cons}
 use Rattle.ubifs_base.specs.declared.key.Key.{Key}
 use Rattle.index_media.specs.KeyedRow.{KeyedRow, no_more, leaf_in, node_in, all_clean}
 use Rattle.index_media.specs.PlacedRow.{leaf_of, stretch_of}
@@ -8,8 +9,12 @@ use Rattle.index_tree.specs.declared.leaf.Leaf.{Leaf}
 use Rattle.media_sys.specs.declared.branch.Branch.{Branch}
 use Rattle.rows_below.specs.RowBelow.{row_by}
 use Rattle.told_value.specs.declared.told.Told.{Told}
-use Rattle.table_nodes.specs.Beyond.{child_before, children_by, contents_told, place_by, row_at_place}
-use Rattle.table_nodes.specs.NodeView.{row_of, stretch_at, node_views}
+use Rattle.table_nodes.specs.Beyond.{child_before, children_by, contents_told, place_by, row_at_place, row_told}
+use Rattle.table_nodes.specs.NodeView.{node_view_of, row_of, stretch_at, node_views}
+use Rattle.table_nodes.specs.NodeViewLaws.{views_push}
+use Rattle.table_nodes.specs.StubLaws.{viewed}
+use Rattle.table_nodes.specs.Stubs.{AreStubs, IsChildView, IsStubOf}
+use Rattle.table_nodes.specs.declared.stub_node.StubNode.{StubNode}
 use Rattle.table_nodes.specs.Links.{row_before, AreLinksIn}
 use Rattle.table_nodes.specs.declared.link.Link.{Link}
 use Rattle.table_nodes.specs.declared.link.Link.TheVariants.{ToLeaf, ToNode}
@@ -67,6 +72,28 @@ pub stub_child_there : (nodes new : List TableNode) (links made : List Link) (nu
 stub_child_there nodes new links made number key n added last pushed there =
     let P : List Link → Type 0 = λ l. AreLinksIn (length new) l in
     subst P (sym pushed) (links_in_pushed nodes new n number key links added last there)
+
+-- that node is one to which the branch leads
+pub stub_added : (lebs : List (List ℕ)) (levels : ℕ) (nodes new : List TableNode) (branch : Branch) (n : TableNode) (told : Told MediumSeen) → 0 < levels → n.level ≡ levels - 1 → n.place ≡ Some (place_by branch)
+    → n.beyond ≡ Some told → told.value ≡ lebs → new ≡ nodes ++ n ∷ [] → AreStubs lebs levels (branch ∷ []) nodes new
+stub_added lebs levels nodes new branch n told some one stands tells same added =
+    let stub : StubNode = record { level = levels - 1; place = place_by branch; told = told } in
+    let seen = node_views nodes in
+    let is : IsStubOf n stub = record { told = told; beyond = tells; tells = refl; place = stands; level = sym one } in
+    let own : IsChildView lebs levels (branch ∷ []) (node_view_of seen n) = record {
+      branch = branch;
+      among = (0, omega arith, refl);
+      level = levels - 1;
+      above = omega (arith, some);
+      is = viewed seen n stub is ∙ ap (λ (l : List (List ℕ)). record { level = levels - 1; place = Some (stretch_of branch); children = row_told l (levels - 1) branch }) same;
+    } in
+    record {
+      more = n ∷ [];
+      is = added;
+      views = node_view_of seen n ∷ [];
+      seen = ap node_views added ∙ views_push nodes n;
+      children = All-cons (IsChildView lebs levels (branch ∷ [])) (node_view_of seen n) [] own (All-nil (IsChildView lebs levels (branch ∷ [])));
+    }
 
 -- no branch is left
 pub none_left : (lebs : List (List ℕ)) (levels : ℕ) (nodes : List TableNode) (links : List Link) (branches : List Branch) → length branches ≡ 0

@@ -11,8 +11,9 @@ use Rattle.table_nodes.specs.declared.link.Link.{Link}
 use Rattle.table_nodes.specs.declared.link.Link.TheVariants.{ToLeaf, ToNode}
 use Rattle.index_cache.proofs.Links.{links_in_added, links_in_append, made_row, node_behind, leaf_behind}
 use Rattle.node_cache.specs.RowsOn.{row_moved, first_leaf, first_node, below, row_as}
-use Rattle.index_cache.proofs.Placed.{none_clean, all_is_clean, sound_below}
+use Rattle.index_cache.proofs.Placed.{none_clean, sound_below}
 use Rattle.index_cache.proofs.load.+loading.Goals as goal
+use Rattle.node_cache.specs.CleanRows.{all_is_clean}
 
 pub load_among-load_among-requires : goal.load_among-load_among-requires
 load_among-load_among-requires g t c κs within =

@@ -1,7 +1,7 @@
 use Rattle.std.proofs.Common.{List, ap, sym, ◌∙◌, subst}
 use Rattle.std.specs.Prelude.{slice_get}
 use Rattle.table_nodes.specs.Beyond.{are_loaded}
-use Rattle.node_table.specs.Clean.{are_clean_below}
+use Rattle.table_nodes.specs.Clean.{are_clean_below}
 use Rattle.node_table.specs.Dirty.{dirty_below}
 use Rattle.node_table.specs.Placing.{IsPlacedRow}
 use Rattle.table_nodes.specs.NodeView.{node_views, children_in, tree_at}

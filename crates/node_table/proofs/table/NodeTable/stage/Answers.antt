@@ -1,6 +1,6 @@
 use Rattle.std.proofs.Common.{arith, ◌≡◌, ◌∙◌, length, ap}
 use Rattle.table_nodes.specs.Beyond.{are_loaded}
-use Rattle.node_table.specs.Clean.{are_clean_below}
+use Rattle.table_nodes.specs.Clean.{are_clean_below}
 use Rattle.table_nodes.specs.NodeView.{node_views}
 use Rattle.node_table.proofs.Counted.{taken_both, taken_back}
 use Rattle.node_table.proofs.table.NodeTable.stage.Goals as goal
