@@ -54,4 +54,3 @@ pub none_clean : (row : PlacedRow) (branches : List Branch) → branches_of row 
 none_clean ended branches e z = refl
 none_clean (leaf_at x rest) branches e z = let long = ap length e in absurd (omega (arith, long, z))
 none_clean (node_at b c rest) branches e z = let long = ap length e in absurd (omega (arith, long, z))
-

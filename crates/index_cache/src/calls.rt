@@ -21,7 +21,7 @@ ghost use Rattle.index_cache.specs.Paged.{keyed_tree_of, leaves_of, frozen_of, f
 use crate::paged::PagedIndex;
 use index_media::a_range_removal_leaves_the_keys_of_branches;
 use index_tree::Leaf;
-use node_table::{Change, NodeTable, roots_stay};
+use node_table::{Change, NodeTable, TreeCounts, roots_stay};
 use std::alloc::Global;
 use table_nodes::Root;
 use ubifs_base::{Key, Memory};
@@ -101,18 +101,14 @@ impl PagedIndex {
         self.table.trees_fit();
     }
 
-    /// The number of nodes.
-    pub fn nodes(&self) -> u64
-        ensures { result ≡ node_count (bare (keyed_tree_of self.now)) }
+    /// The number of nodes, and the weight: that number plus the number of full ones. It looks at all nodes.
+    ///
+    /// `Memory` comes only if the numbers pass 64 bits.
+    pub fn size(&self) -> Result<TreeCounts, Memory>
+        ensures nodes { IfOk result (λ size. size.nodes ≡ node_count (bare (keyed_tree_of self.now))) }
+        ensures weight { IfOk result (λ size. size.weight ≡ shape_weight (fanout_of self.now) (bare (keyed_tree_of self.now))) }
     {
-        self.table.nodes(self.root)
-    }
-
-    /// The number of nodes plus the number of full ones.
-    pub fn weight(&self) -> u64
-        ensures { result ≡ shape_weight (fanout_of self.now) (bare (keyed_tree_of self.now)) }
-    {
-        self.table.weight(self.root)
+        self.table.size(self.root)
     }
 
     /// Puts the leaf after all leaves whose key isn't greater. Nodes on its way are dirty, and all others keep their places.

@@ -124,8 +124,8 @@ fn size_from<V: Volume>(
 }
 
 impl MountedIndex {
-    /// How many nodes the index has, and what it weighs. If it is on the volume alone, this reads all its nodes, of which those of one path
-    /// are in memory at a time. The volume is as it was.
+    /// How many nodes the index has, and what it weighs. It looks at all nodes: if the index is on the volume alone, it reads them, and
+    /// those of one path are in memory at a time. The volume is as it was.
     ///
     /// `Memory` and `Volume` are the faults. A size past 64 bits is answered as want of memory.
     pub fn size<V: Volume>(&mut self, alloc: Global, volume: &mut V) -> Result<IndexSize, AreaFault>
@@ -143,10 +143,13 @@ impl MountedIndex {
                 let size = size_from(alloc, volume, root, self.geometry.fanout)?;
                 Ok(size)
             }
-            IndexNodes::InMemory(index) => Ok(IndexSize {
-                nodes: index.nodes(),
-                weight: index.weight(),
-            }),
+            IndexNodes::InMemory(index) => {
+                let size = index.size()?;
+                Ok(IndexSize {
+                    nodes: size.nodes,
+                    weight: size.weight,
+                })
+            }
         }
     }
 }

@@ -35,18 +35,18 @@ among_more known more [] h = refl
 among_more known more (ToLeaf x ∷ links) h = among_more known more links h.1
 among_more known more (ToNode key number ∷ links) h = rw (get_first known more number h.0, among_more known more links h.1) refl
 
-dirty_more : (known : List (List ℕ)) (nodes : List TableNode) → (more : List (List ℕ)) × (dirty_behind known nodes ≡ known ++ more)
+pub dirty_more : (known : List (List ℕ)) (nodes : List TableNode) → (more : List (List ℕ)) × (dirty_behind known nodes ≡ known ++ more)
 dirty_more known [] = ([], sym (append-nil known))
 dirty_more known (n ∷ ns) =
     let own = dirty_node n.place (length known) (dirty_among known n.links.items) in
     let p = dirty_more (known ++ own ∷ []) ns in
     (own ∷ p.0, p.1 ∙ append_assoc known (own ∷ []) p.0)
 
-dirty_append : (known : List (List ℕ)) (xs ys : List TableNode) → dirty_behind known (xs ++ ys) ≡ dirty_behind (dirty_behind known xs) ys
+pub dirty_append : (known : List (List ℕ)) (xs ys : List TableNode) → dirty_behind known (xs ++ ys) ≡ dirty_behind (dirty_behind known xs) ys
 dirty_append known [] ys = refl
 dirty_append known (x ∷ xs) ys = dirty_append (known ++ dirty_node x.place (length known) (dirty_among known x.links.items) ∷ []) xs ys
 
-dirty_long : (known : List (List ℕ)) (nodes : List TableNode) → length (dirty_behind known nodes) ≡ length known + length nodes
+pub dirty_long : (known : List (List ℕ)) (nodes : List TableNode) → length (dirty_behind known nodes) ≡ length known + length nodes
 dirty_long known [] = omega arith
 dirty_long known (n ∷ ns) =
     let own = dirty_node n.place (length known) (dirty_among known n.links.items) in
@@ -203,11 +203,15 @@ option_there : (o : Option (List ℕ)) (i : ℕ) → unwrap_or o [] ≡ i ∷ []
 option_there None i h = absurd cc
 option_there (Some d) i h = ap Some h
 
+pub lists_given : (nodes : List TableNode) (number : ℕ) (p : NodePlace) (n : TableNode) → slice_get nodes number ≡ Some n → n.place ≡ None
+    → dirty_from nodes number ≡ number ∷ [] → dirty_lists (with_place number p nodes) ≡ map (without_number number) (dirty_lists nodes)
+lists_given nodes number p n h d alone =
+    let start : length {A = List ℕ} [] + number ≡ number = omega arith in
+    given_dirty number [] nodes number p n refl start h d (option_there (slice_get (dirty_lists nodes) number) number alone)
+
 pub dirty_given : (nodes : List TableNode) (number : ℕ) (p : NodePlace) (n : TableNode) (root : Option Root) → slice_get nodes number ≡ Some n → n.place ≡ None
     → dirty_from nodes number ≡ number ∷ [] → dirty_below (with_place number p nodes) root ≡ without_number number (dirty_below nodes root)
 dirty_given nodes number p n None h d alone = refl
 dirty_given nodes number p n (Some root) h d alone =
-    let start : length {A = List ℕ} [] + number ≡ number = omega arith in
-    let there = option_there (slice_get (dirty_lists nodes) number) number alone in
-    ap (λ (ds : List (List ℕ)). unwrap_or (slice_get ds root.number) []) (given_dirty number [] nodes number p n refl start h d there)
+    ap (λ (ds : List (List ℕ)). unwrap_or (slice_get ds root.number) []) (lists_given nodes number p n h d alone)
     ∙ nothing number (dirty_lists nodes) root.number

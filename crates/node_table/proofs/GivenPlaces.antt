@@ -15,12 +15,10 @@ use Rattle.told_value.specs.declared.told.Told.{Told}
 use Rattle.table_nodes.specs.Beyond.{children_by, is_loaded, are_loaded, row_told, branch_at_place}
 use Rattle.table_nodes.specs.BeyondLaws.{loaded_row}
 use Rattle.table_nodes.specs.Clean.{is_clean_below, are_clean_below}
-use Rattle.node_table.specs.Counting.{counts_of, counts_of_all}
 use Rattle.table_nodes.specs.NodeView.{NodeView, stretch_at, node_before, linked_before, row_of, node_view_of, views_behind, node_views, children_in, tree_at, IsRootIn}
 use Rattle.node_table.specs.Placing.{with_place, IsPlacedRow}
 use Rattle.table_nodes.specs.Sound.{IsSoundView, AreSoundViews}
 use Rattle.node_table.specs.Staging.{IsSoundRoot}
-use Rattle.node_table.specs.declared.counts.TreeCounts.{TreeCounts}
 use Rattle.table_nodes.specs.declared.link.Link.{Link}
 use Rattle.table_nodes.specs.declared.link.Link.TheVariants.{ToLeaf, ToNode}
 use Rattle.table_nodes.specs.declared.node.NodePlace.{NodePlace}
@@ -235,14 +233,6 @@ views_settled p b (v ∷ vs) ws c h s =
     let own = settled_view p b v h.0.place h.0.children c h.3.place h.3.children (and_left (is_clean_below v) (are_clean_below vs) s) in
     let more = views_settled p b vs h.1 c h.4 (and_right (is_clean_below v) (are_clean_below vs) s) in
     ap are_clean_below h.2 ∙ rw (own, more) refl
-
-pub views_counted : (f : ℕ) (p : NodePlace) (b : KeyedRow) (vs ws : List NodeView) → ArePlacedViews p b vs ws → counts_of_all f ws ≡ counts_of_all f vs
-views_counted f p b [] ws h = ap (counts_of_all f) h
-views_counted f p b (v ∷ vs) ws h =
-    let e = placed_bare p b v.children h.0.children h.3.children in
-    let own : counts_of f h.0.children ≡ counts_of f v.children = rw e refl in
-    let more = views_counted f p b vs h.1 h.4 in
-    ap (counts_of_all f) h.2 ∙ ap (λ (c : TreeCounts). c ∷ counts_of_all f h.1) own ∙ ap (λ (cs : List TreeCounts). counts_of f v.children ∷ cs) more
 
 pub with_loaded : (number : ℕ) (p : NodePlace) (nodes : List TableNode) → are_loaded (with_place number p nodes) ≡ are_loaded nodes
 with_loaded number p [] = refl

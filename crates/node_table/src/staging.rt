@@ -6,8 +6,8 @@ ghost use Rattle.table_nodes.specs.NodeView.{tree_at, leaves_at};
 ghost use Rattle.table_nodes.specs.Links.{AreNodesAdded};
 ghost use Rattle.node_table.specs.Staging.{IsSoundRoot};
 
+use crate::bounds::truncate_both;
 use crate::change::Change;
-use crate::counting::truncate_both;
 use crate::table::NodeTable;
 use index_media::{
     a_range_removal_leaves_the_keys_of_branches, a_removal_leaves_the_keys_of_branches,
@@ -96,7 +96,7 @@ impl NodeTable {
         match self.stage_all(alloc, root, changes) {
             Ok(made) => Ok(made),
             Err(fault) => {
-                truncate_both(&mut self.nodes, &mut self.counts, number);
+                truncate_both(&mut self.nodes, &mut self.most_dirty, number);
                 Err(fault)
             }
         }
