@@ -9,8 +9,9 @@ use Rattle.index_media.specs.PlacedRow.{PlacedRow, ended, leaf_at, node_at}
 use Rattle.ubi_volume.specs.Geometry.{IsGeometryOf}
 use Rattle.ubi_volume.specs.Volume.{SameShape, VolumeState}
 use Rattle.ubifs_base.specs.declared.raw_geometry.RawGeometry.{RawGeometry}
-use Rattle.index_commit.specs.Lebs.{AreApart, AreGivable, IsGiven}
+use Rattle.index_commit.specs.Lebs.{AreLebsApart, AreGivable, IsGiven}
 use Rattle.index_commit.specs.declared.index_fault.IndexFault.{IndexFault}
+use Rattle.node_cache.specs.CleanRows.{all_is_clean}
 
 pub on_ok_more : {T : Type 0} {P Q : Type 0} (r : Result T IndexFault) → (P → Q) → OnOk r P → OnOk r Q
 on_ok_more (Ok x) f p = f p
@@ -50,11 +51,11 @@ step_lebs n m bud lnum rest lebs same is h =
 pub record AreApartNow (others : List ℕ) (bud lnum : ℕ) (rest : List ℕ) : Type 0 where
   pub put : IsGiven others bud → ⊥
   pub step : IsGiven others lnum → ⊥
-  pub later : AreApart others (bud ∷ rest)
+  pub later : AreLebsApart others (bud ∷ rest)
 
-pub apart_now : (others : List ℕ) (bud lnum : ℕ) (rest lebs : List ℕ) → lebs ≡ lnum ∷ rest → AreApart others (bud ∷ lebs) → AreApartNow others bud lnum rest
+pub apart_now : (others : List ℕ) (bud lnum : ℕ) (rest lebs : List ℕ) → lebs ≡ lnum ∷ rest → AreLebsApart others (bud ∷ lebs) → AreApartNow others bud lnum rest
 apart_now others bud lnum rest lebs is h =
-    let P : List ℕ → Type 0 = λ xs. AreApart others (bud ∷ xs) in
+    let P : List ℕ → Type 0 = λ xs. AreLebsApart others (bud ∷ xs) in
     let all = subst P is h in
     record {
       put = λ given. all bud given (inl refl);
@@ -62,7 +63,7 @@ apart_now others bud lnum rest lebs is h =
       later = λ k given other. elim other [ inl e ↦ all k given (inl e) | inr more ↦ all k given (inr (inr more)) ];
     }
 
-pub apart_then : (n : ℕ) (kept given : List ℕ) (bud lnum : ℕ) (rest : List ℕ) → AreStepLebs n bud lnum rest → AreApart (given ++ kept) (bud ∷ rest) → AreApart ((lnum ∷ given) ++ kept) (bud ∷ rest)
+pub apart_then : (n : ℕ) (kept given : List ℕ) (bud lnum : ℕ) (rest : List ℕ) → AreStepLebs n bud lnum rest → AreLebsApart (given ++ kept) (bud ∷ rest) → AreLebsApart ((lnum ∷ given) ++ kept) (bud ∷ rest)
 apart_then n kept given bud lnum rest lebs apart k one other =
     let G : ℕ → Type 0 = λ m. IsGiven rest m in
     elim one [
@@ -70,7 +71,7 @@ apart_then n kept given bud lnum rest lebs apart k one other =
       | inr before ↦ apart k before other
     ]
 
-pub bud_apart : (n : ℕ) (kept given : List ℕ) (bud lnum : ℕ) (rest : List ℕ) → AreStepLebs n bud lnum rest → AreApart (given ++ kept) (bud ∷ rest) → IsGiven ((lnum ∷ given) ++ kept) bud → ⊥
+pub bud_apart : (n : ℕ) (kept given : List ℕ) (bud lnum : ℕ) (rest : List ℕ) → AreStepLebs n bud lnum rest → AreLebsApart (given ++ kept) (bud ∷ rest) → IsGiven ((lnum ∷ given) ++ kept) bud → ⊥
 bud_apart n kept given bud lnum rest lebs apart one = elim one [ inl e ↦ lebs.two e | inr before ↦ apart bud before (inl refl) ]
 
 -- without a step, the LEBs that a commit was given are those that it was given before
@@ -86,11 +87,6 @@ given_since lnum rest lebs given now is all =
       | inr before ↦ elim before [ inl e ↦ inl e | inr old ↦ inr (given_behind rest given k old) ]
     ] in
     subst P (sym is) (All-weaker (IsGiven (rest ++ (lnum ∷ given))) (IsGiven (lnum ∷ (rest ++ given))) more now all)
-
-all_is_clean : (row : PlacedRow) → is_clean_row (all_clean row) ≡ true
-all_is_clean ended = refl
-all_is_clean (leaf_at x rest) = all_is_clean rest
-all_is_clean (node_at branch children rest) = rw (all_is_clean children, all_is_clean rest) refl
 
 pub clean_row : (row : KeyedRow) (placed : PlacedRow) → row ≡ all_clean placed → is_clean_row row ≡ true
 clean_row row placed e = ap is_clean_row e ∙ all_is_clean placed

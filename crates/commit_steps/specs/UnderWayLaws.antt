@@ -20,9 +20,9 @@ use Rattle.ubi_volume.specs.Frame.{Elsewhere, Works}
 use Rattle.ubi_volume.specs.FrameLaws.{IsSameLeb-keeps, IsSameLeb-none, IsSameLeb-then, Only-same, Works-on}
 use Rattle.ubi_volume.specs.Volume.{VolumeState, Keeps, Leaves, Only, UnderWay, WorksOn}
 use Rattle.ubi_volume.specs.VolumeLaws.{Leaves-keeps, Leaves-more, Leaves-none, Leaves-then}
-use Rattle.index_cache.specs.Paged.{dirty_of, frozen_of, tree_of}
+use Rattle.index_cache.specs.Paged.{dirty_of, frozen_of, keyed_tree_of}
 use Rattle.index_cache.specs.declared.paged.PagedIndex.{PagedIndex}
-use Rattle.index_commit.specs.Lebs.{AreApart, IsGiven}
+use Rattle.index_commit.specs.Lebs.{AreLebsApart, IsGiven}
 use Rattle.index_commit.specs.LebTexts.{IsLebOf, firsts, nodes_written, said_by}
 use Rattle.index_commit.specs.Rooms.{Room}
 use Rattle.index_commit.specs.Standing.{AreOutside, IsOutside}
@@ -100,15 +100,15 @@ row_moved old new P Q (leaf_in x rest) f h = row_moved old new P Q rest f h
 row_moved old new P Q (node_in key place children rest) f h = (own_moved old new P Q key place children f h.0, row_moved old new P Q children f h.1, row_moved old new P Q rest f h.2)
 
 -- ---- nodes within some LEBs are outside of others
-pub outside_of : (contents : ℕ → List ℕ) (lebs others : List ℕ) (row : KeyedRow) → AreApart lebs others → AreWithinLebs contents lebs row → AreOutside contents others row
+pub outside_of : (contents : ℕ → List ℕ) (lebs others : List ℕ) (row : KeyedRow) → AreLebsApart lebs others → AreWithinLebs contents lebs row → AreOutside contents others row
 outside_of contents lebs others row two h = row_moved contents contents (IsWithinLebs lebs) (IsOutside others) row (λ s n g given. (refl, λ other. two s.lnum given other)) h
 
 -- the other way round, where they are outside of all others
 abbrev pub AreOutsideOthers : (ℕ → List ℕ) → List ℕ → KeyedRow → Type 0
-AreOutsideOthers contents lebs row = (others : List ℕ) → AreApart lebs others → AreOutside contents others row
+AreOutsideOthers contents lebs row = (others : List ℕ) → AreLebsApart lebs others → AreOutside contents others row
 
 own_within : (contents : ℕ → List ℕ) (lebs : List ℕ) (key : Key) (place : Option Stretch) (children : KeyedRow)
-    → ((others : List ℕ) → AreApart lebs others → OfClean (StandsAs contents (IsOutside others)) key place children) → OfClean (StandsAs contents (IsWithinLebs lebs)) key place children
+    → ((others : List ℕ) → AreLebsApart lebs others → OfClean (StandsAs contents (IsOutside others)) key place children) → OfClean (StandsAs contents (IsWithinLebs lebs)) key place children
 own_within contents lebs key None children f = tt
 own_within contents lebs key (Some s) children f =
     let one = f [] (λ k a b. b) in
@@ -116,7 +116,7 @@ own_within contents lebs key (Some s) children f =
       | inl g ↦ record { clean = one.clean; level = one.level; levels = one.levels; node = one.node; holds = g }
       | inr out ↦
           let G : ℕ → Type 0 = λ m. IsGiven lebs m in
-          let two : AreApart lebs (s.lnum ∷ []) = λ k a b. elim b [ inl e ↦ out (subst G e a) | inr n ↦ n ] in
+          let two : AreLebsApart lebs (s.lnum ∷ []) = λ k a b. elim b [ inl e ↦ out (subst G e a) | inr n ↦ n ] in
           absurd ((f (s.lnum ∷ []) two).holds (inl refl))
     ]
 
@@ -132,7 +132,7 @@ within_of contents lebs (node_in key place children rest) f = (
 -- ---- before a commit
 -- an index that is loaded from settled LEBs, where its nodes stand outside of all others
 pub index_loaded : (state : VolumeState) (placed : PlacedRow) (index : PagedIndex) → ((others : List ℕ) → All (λ k. IsGiven others k → ⊥) (lebs_of placed) → AreOutside state.holds others (all_clean placed))
-    → tree_of index ≡ all_clean placed → AreSettledLebs state (lebs_of placed) → IsSeenWithin state (lebs_of placed) index
+    → keyed_tree_of index ≡ all_clean placed → AreSettledLebs state (lebs_of placed) → IsSeenWithin state (lebs_of placed) index
 index_loaded state placed index stands loaded settled =
     let lebs : List ℕ = lebs_of placed in
     let W : KeyedRow → Type 0 = λ r. AreWithinLebs state.holds lebs r in
@@ -142,13 +142,13 @@ index_loaded state placed index stands loaded settled =
     }
 
 -- a change of the index that is seen
-pub seen_changed : (state : VolumeState) (lebs : List ℕ) (a b : PagedIndex) → ((others : List ℕ) → AreOutside state.holds others (tree_of a) → AreOutside state.holds others (tree_of b))
+pub seen_changed : (state : VolumeState) (lebs : List ℕ) (a b : PagedIndex) → ((others : List ℕ) → AreOutside state.holds others (keyed_tree_of a) → AreOutside state.holds others (keyed_tree_of b))
     → IsSeenWithin state lebs a → IsSeenWithin state lebs b
 seen_changed state lebs a b keeps h =
-    record { settled = h.settled; seen = within_of state.holds lebs (tree_of b) (λ others two. keeps others (outside_of state.holds lebs others (tree_of a) two h.seen)) }
+    record { settled = h.settled; seen = within_of state.holds lebs (keyed_tree_of b) (λ others two. keeps others (outside_of state.holds lebs others (keyed_tree_of a) two h.seen)) }
 
 -- ---- a commit begins
-pub commit_begun : (state : VolumeState) (kept : List ℕ) (a b : PagedIndex) → frozen_of b ≡ tree_of a → tree_of b ≡ tree_of a → IsSeenWithin state kept a → IsCommitUnderWay state kept [] b
+pub commit_begun : (state : VolumeState) (kept : List ℕ) (a b : PagedIndex) → frozen_of b ≡ keyed_tree_of a → keyed_tree_of b ≡ keyed_tree_of a → IsSeenWithin state kept a → IsCommitUnderWay state kept [] b
 commit_begun state kept a b frozen seen h =
     let W : KeyedRow → Type 0 = λ r. AreWithinLebs state.holds kept r in
     record {
@@ -165,8 +165,8 @@ step_within : (old new : VolumeState) (lnum i j : ℕ) (lebs : List ℕ) (a b : 
 step_within old new lnum i j lebs a b root apart standing h =
     let G : ℕ → Type 0 = λ m. IsGiven lebs m in
     within_of new.holds (lnum ∷ lebs) (tree_at b.table.nodes.items root) (λ others two.
-    let new_apart : AreApart (lnum ∷ []) others = λ k one other. elim one [ inl e ↦ two k (inl e) other | inr none ↦ none ] in
-    let old_apart : AreApart lebs (lnum ∷ others) = λ k one other. elim other [ inl e ↦ apart (subst G e one) | inr more ↦ two k (inr one) more ] in
+    let new_apart : AreLebsApart (lnum ∷ []) others = λ k one other. elim one [ inl e ↦ two k (inl e) other | inr none ↦ none ] in
+    let old_apart : AreLebsApart lebs (lnum ∷ others) = λ k one other. elim other [ inl e ↦ apart (subst G e one) | inr more ↦ two k (inr one) more ] in
     standing.nodes others root new_apart (outside_of old.holds lebs (lnum ∷ others) (tree_at a.table.nodes.items root) old_apart h))
 
 -- a frozen node that was clean before the step stood outside of what it stands outside of after it
@@ -221,8 +221,8 @@ commit_stepped old new kept given lnum i j a b apart index standing works only h
           let O : Option Root → Type 0 = λ root. AreOutside new.holds others (tree_at b.table.nodes.items root) in
           let G : ℕ → Type 0 = λ m. IsGiven given m in
           let before = row_before old.holds new.holds lnum lebs others (frozen_of a) (frozen_of b) apart index.frozen h.frozen out in
-          let old_apart : AreApart given (lnum ∷ others) = λ k one other. elim other [ inl e ↦ apart (given_front given kept lnum (subst G e one)) | inr more ↦ two k (inr one) more ] in
-          let new_apart : AreApart (lnum ∷ []) others = λ k one other. elim one [ inl e ↦ two k (inl e) other | inr none ↦ none ] in
+          let old_apart : AreLebsApart given (lnum ∷ others) = λ k one other. elim other [ inl e ↦ apart (given_front given kept lnum (subst G e one)) | inr more ↦ two k (inr one) more ] in
+          let new_apart : AreLebsApart (lnum ∷ []) others = λ k one other. elim one [ inl e ↦ two k (inl e) other | inr none ↦ none ] in
           subst O (sym index.roots.root) (standing.nodes others a.root new_apart (h.shared (lnum ∷ others) old_apart before));
     }
 
@@ -252,7 +252,7 @@ commit_step geo old new kept given lnum i j a b apart taken less standing works 
 
 -- ---- what comes between
 -- a change of the index that is seen
-pub index_changed : (state : VolumeState) (kept given : List ℕ) (a b : PagedIndex) → ((others : List ℕ) → AreOutside state.holds others (tree_of a) → AreOutside state.holds others (tree_of b)) → frozen_of b ≡ frozen_of a
+pub index_changed : (state : VolumeState) (kept given : List ℕ) (a b : PagedIndex) → ((others : List ℕ) → AreOutside state.holds others (keyed_tree_of a) → AreOutside state.holds others (keyed_tree_of b)) → frozen_of b ≡ frozen_of a
     → IsCommitUnderWay state kept given a → IsCommitUnderWay state kept given b
 index_changed state kept given a b keeps frozen h =
     let lebs : List ℕ = given ++ kept in
@@ -260,7 +260,7 @@ index_changed state kept given a b keeps frozen h =
     record {
       settled = h.settled;
       frozen = subst W (sym frozen) h.frozen;
-      seen = within_of state.holds lebs (tree_of b) (λ others two. keeps others (outside_of state.holds lebs others (tree_of a) two h.seen));
+      seen = within_of state.holds lebs (keyed_tree_of b) (λ others two. keeps others (outside_of state.holds lebs others (keyed_tree_of a) two h.seen));
       shared = λ others two out. let O : KeyedRow → Type 0 = λ r. AreOutside state.holds others r in keeps others (h.shared others two (subst O frozen out));
     }
 
@@ -351,12 +351,12 @@ commit_beside old new kept given index works h =
     record {
       settled = settled_beside old new lebs works h.settled;
       frozen = within_beside old new lebs (frozen_of index) works h.frozen;
-      seen = within_beside old new lebs (tree_of index) works h.seen;
-      shared = λ others two out. outside_beside old new lebs others (tree_of index) works h.seen (h.shared others two (outside_before old new lebs others (frozen_of index) works h.frozen out));
+      seen = within_beside old new lebs (keyed_tree_of index) works h.seen;
+      shared = λ others two out. outside_beside old new lebs others (keyed_tree_of index) works h.seen (h.shared others two (outside_before old new lebs others (frozen_of index) works h.frozen out));
     }
 
 pub seen_beside : (old new : VolumeState) (lebs : List ℕ) (index : PagedIndex) → WorksBeside old new lebs → IsSeenWithin old lebs index → IsSeenWithin new lebs index
-seen_beside old new lebs index works h = record { settled = settled_beside old new lebs works h.settled; seen = within_beside old new lebs (tree_of index) works h.seen }
+seen_beside old new lebs index works h = record { settled = settled_beside old new lebs works h.settled; seen = within_beside old new lebs (keyed_tree_of index) works h.seen }
 
 -- ---- what stood before
 -- contents that agree on an index's LEBs hold the same index
@@ -445,7 +445,7 @@ commit_ended state kept given index clean h =
         | inl front ↦ h.settled k (given_front given kept k front)
         | inr behind ↦ all_given (λ m. Only (state.holds m) (state.left_now m)) own all k behind
       ];
-      seen = within_of state.holds (given ++ own) (tree_of index) (λ others two.
+      seen = within_of state.holds (given ++ own) (keyed_tree_of index) (λ others two.
           h.shared others (λ k one other. two k (given_front given own k one) other)
           (own_outside state.holds lebs others (frozen_of index) (λ k one other. two k (given_behind given own k one) other) h.frozen));
     }

@@ -14,8 +14,8 @@ ghost use Rattle.node_table.specs.Placing.{KeepsPlaces};
 ghost use Rattle.ubi_volume.specs.Geometry.{IsGeometryOf};
 ghost use Rattle.ubi_volume.specs.Volume.{AreUnits, Leaves, Only, SameShape, filled};
 ghost use Rattle.node_cache.specs.Loaded.{IsIndexOn};
-ghost use Rattle.index_cache.specs.Paged.{dirty_of, fanout_of, frozen_of, leaves_of, tree_of};
-ghost use Rattle.index_commit.specs.Lebs.{AreApart, AreGivable, IsGiven};
+ghost use Rattle.index_cache.specs.Paged.{dirty_of, fanout_of, frozen_of, leaves_of, keyed_tree_of};
+ghost use Rattle.index_commit.specs.Lebs.{AreLebsApart, AreGivable, IsGiven};
 ghost use Rattle.index_commit.specs.Written.{IsRootOf};
 ghost use Rattle.commit_steps.specs.UnderWay.{AreSettledLebs, IsCommitUnderWay, IsSeenWithin, WorksBeside};
 
@@ -84,12 +84,12 @@ fn take_steps<V: Volume>(
     requires units { AreUnits (V.state volume.old).min_io 0 (length node.now) }
     requires key { IsKey leaf.key }
     requires number { sqnum.old + length (dirty_of index.old) + length lebs.now < 2 ^ 64 - 1 }
-    ensures done { (kept given : List ℕ) → AreApart (given ++ kept) (bud ∷ lebs.now) → IsCommitUnderWay (V.state volume.old) kept given index.old
+    ensures done { (kept given : List ℕ) → AreLebsApart (given ++ kept) (bud ∷ lebs.now) → IsCommitUnderWay (V.state volume.old) kept given index.old
         → OnOk result ((now : List ℕ) × All (IsGiven (lebs.now ++ given)) now × IsCommitUnderWay (V.state volume.new) kept now index.new) }
     ensures none { OnOk result (dirty_of index.new ≡ []) }
     ensures written { (V.state volume.old).holds bud ≡ filled (V.state volume.old).leb_size node.now
         → OnOk result ((V.state volume.new).holds bud ≡ filled (V.state volume.old).leb_size node.now) }
-    ensures beside { (others : List ℕ) → AreApart others (bud ∷ lebs.now) → WorksBeside (V.state volume.old) (V.state volume.new) others }
+    ensures beside { (others : List ℕ) → AreLebsApart others (bud ∷ lebs.now) → WorksBeside (V.state volume.old) (V.state volume.new) others }
     ensures frozen { KeepsPlaces (frozen_of index.old) (frozen_of index.new) }
     ensures fanout { fanout_of index.new ≡ fanout_of index.old }
 {
@@ -125,16 +125,16 @@ pub fn commit_beside_puts<V: Volume>(
     requires node { (length node.now ≤ (V.state volume.old).leb_size) × AreUnits (V.state volume.old).min_io 0 (length node.now) }
     requires key { IsKey leaf.key }
     requires number { sqnum.old + length lebs.now < 2 ^ 63 }
-    ensures stands { (kept : List ℕ) → AreApart kept (bud ∷ lebs.now) → IsSeenWithin (V.state volume.old) kept index.old
+    ensures stands { (kept : List ℕ) → AreLebsApart kept (bud ∷ lebs.now) → IsSeenWithin (V.state volume.old) kept index.old
         → IfOk result (λ root. IsRootOf (V.state volume.new).holds geometry.now.fanout (frozen_of index.new) root
         × All (λ k. Only ((V.state volume.new).holds k) ((V.state volume.new).left_now k)) (lebs_of (placed_of (frozen_of index.new)))) }
-    ensures next { (kept : List ℕ) → AreApart kept (bud ∷ lebs.now) → IsSeenWithin (V.state volume.old) kept index.old
+    ensures next { (kept : List ℕ) → AreLebsApart kept (bud ∷ lebs.now) → IsSeenWithin (V.state volume.old) kept index.old
         → OnOk result ((given : List ℕ) × All (IsGiven lebs.now) given × IsSeenWithin (V.state volume.new) (given ++ lebs_of (placed_of (frozen_of index.new))) index.new) }
-    ensures frozen { OnOk result (KeepsPlaces (tree_of index.old) (frozen_of index.new)) }
+    ensures frozen { OnOk result (KeepsPlaces (keyed_tree_of index.old) (frozen_of index.new)) }
     ensures written { (V.state volume.old).holds bud ≡ filled (V.state volume.old).leb_size node.now
         → OnOk result ((V.state volume.new).holds bud ≡ filled (V.state volume.old).leb_size node.now) }
-    ensures beside { (others : List ℕ) → AreApart others (bud ∷ lebs.now) → WorksBeside (V.state volume.old) (V.state volume.new) others }
-    ensures old_stays { (kept : List ℕ) (fanout : ℕ) (root : ABranch) (placed : PlacedRow) → AreApart kept (bud ∷ lebs.now) → IsSeenWithin (V.state volume.old) kept index.old
+    ensures beside { (others : List ℕ) → AreLebsApart others (bud ∷ lebs.now) → WorksBeside (V.state volume.old) (V.state volume.new) others }
+    ensures old_stays { (kept : List ℕ) (fanout : ℕ) (root : ABranch) (placed : PlacedRow) → AreLebsApart kept (bud ∷ lebs.now) → IsSeenWithin (V.state volume.old) kept index.old
         → All (IsGiven kept) (lebs_of placed) → IsStoredIndex (V.state volume.old).holds fanout root placed
         → Leaves (V.state volume.old) (V.state volume.new) (λ c. IsStoredIndex c fanout root placed) }
 {
@@ -166,11 +166,11 @@ pub fn load_and_commit<V: Volume>(
     requires node { (length node.now ≤ (V.state volume.old).leb_size) × AreUnits (V.state volume.old).min_io 0 (length node.now) }
     requires key { IsKey leaf.key }
     requires number { sqnum.old + 1 + length lebs.now < 2 ^ 63 }
-    ensures leaves { (row : PlacedRow) → IsIndexOn (V.state volume.old) geometry.now.fanout root.now row → AreSettledLebs (V.state volume.old) (lebs_of row) → AreApart (lebs_of row) (bud ∷ lebs.now)
+    ensures leaves { (row : PlacedRow) → IsIndexOn (V.state volume.old) geometry.now.fanout root.now row → AreSettledLebs (V.state volume.old) (lebs_of row) → AreLebsApart (lebs_of row) (bud ∷ lebs.now)
         → IfOk result (λ at. (now : KeyedRow) × (contents (bare now) ≡ placed leaf (contents (plain row))) × IsRootOf (V.state volume.new).holds geometry.now.fanout now at) }
     ensures written { OnOk result ((V.state volume.new).holds bud ≡ filled (V.state volume.old).leb_size node.now) }
-    ensures beside { (others : List ℕ) → AreApart others (bud ∷ lebs.now) → WorksBeside (V.state volume.old) (V.state volume.new) others }
-    ensures old_stays { (row : PlacedRow) → IsIndexOn (V.state volume.old) geometry.now.fanout root.now row → AreSettledLebs (V.state volume.old) (lebs_of row) → AreApart (lebs_of row) (bud ∷ lebs.now)
+    ensures beside { (others : List ℕ) → AreLebsApart others (bud ∷ lebs.now) → WorksBeside (V.state volume.old) (V.state volume.new) others }
+    ensures old_stays { (row : PlacedRow) → IsIndexOn (V.state volume.old) geometry.now.fanout root.now row → AreSettledLebs (V.state volume.old) (lebs_of row) → AreLebsApart (lebs_of row) (bud ∷ lebs.now)
         → Leaves (V.state volume.old) (V.state volume.new) (λ c. IsStoredIndex c geometry.now.fanout root.now row) }
 {
     an_index_depends_on_its_lebs_alone();

@@ -27,39 +27,5 @@ one_more most below number whole under e h =
     let sum = length-append under (number ∷ []) in
     grind (arith, long, sum, h)
 
--- there are no more of them than there are nodes
-node_apart : (key : Key) (o : Option NodeView) (rest : KeyedRow) → node_count (bare (node_before key o rest)) ≡ node_count (bare (children_in o)) + node_count (bare rest) + 1
-node_apart key None rest = refl
-node_apart key (Some v) rest = refl
-
-nodes_apart : (seen : List NodeView) (link : Link) (rest : List Link) → node_count (bare (row_of seen (link ∷ rest))) ≡ node_count (bare (row_of seen (link ∷ []))) + node_count (bare (row_of seen rest))
-nodes_apart seen (ToLeaf x) rest = omega arith
-nodes_apart seen (ToNode key number) rest =
-    let whole = node_apart key (slice_get seen number) (row_of seen rest) in
-    let first = node_apart key (slice_get seen number) no_more in
-    omega (arith, whole, first)
-
-pub node_most : (known : List (List ℕ)) (seen : List NodeView) (key : Key) (number : ℕ) → length (unwrap_or (slice_get known number) []) ≤ node_count (node (bare (children_in (slice_get seen number))) done)
-    → length (dirty_among known (ToNode key number ∷ [])) ≤ node_count (bare (row_of seen (ToNode key number ∷ [])))
-node_most known seen key number h =
-    let whole = node_apart key (slice_get seen number) no_more in
-    let long = ap length (append-nil (unwrap_or (slice_get known number) [])) in
-    omega (arith, whole, long, h)
-
-pub both_most : (known : List (List ℕ)) (seen : List NodeView) (links rest : List Link) (link : Link) → links ≡ link ∷ rest
-    → length (dirty_among known (link ∷ [])) ≤ node_count (bare (row_of seen (link ∷ []))) → length (dirty_among known rest) ≤ node_count (bare (row_of seen rest))
-    → length (dirty_among known links) ≤ node_count (bare (row_of seen links))
-both_most known seen links rest link e h b =
-    let long = ap (λ (v : List Link). length (dirty_among known v)) e ∙ ap length (first_apart known link rest) in
-    let sum = length-append (dirty_among known (link ∷ [])) (dirty_among known rest) in
-    let nodes = ap (λ (v : List Link). node_count (bare (row_of seen v))) e ∙ nodes_apart seen link rest in
-    omega (arith, long, sum, nodes, h, b)
-
-pub one_most : (whole under : List ℕ) (number n m : ℕ) → whole ≡ under ++ number ∷ [] → length under ≤ n → n ≡ m → length whole ≤ m + 0 + 1
-one_most whole under number n m e h k =
-    let long = ap length e in
-    let sum = length-append under (number ∷ []) in
-    omega (arith, long, sum, h, k)
-
-pub none_most : (whole : List ℕ) (n : ℕ) → whole ≡ [] → length whole ≤ n
-none_most whole n e = let long = ap length e in omega (arith, long)
+pub node_counted : (known : List (List ℕ)) (number most n : ℕ) → n ≡ min (length (unwrap_or (slice_get known number) [])) most → n ≡ min (length (unwrap_or (slice_get known number) [] ++ [])) most
+node_counted known number most n h = let long = ap length (append-nil (unwrap_or (slice_get known number) [])) in grind (arith, long, h)

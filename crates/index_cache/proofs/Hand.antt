@@ -7,7 +7,7 @@ use Rattle.index_media.specs.PlacedRow.{ended, leaf_at, node_at}
 use Rattle.index_tree.specs.declared.leaf.Leaf.{Leaf}
 use Rattle.table_nodes.specs.BeyondLaws.{loaded_row}
 use Rattle.node_table.specs.Dirty.{dirty_lists, dirty_node, dirty_among}
-use Rattle.table_nodes.specs.NodeView.{row_of, stretch_at, tree_at, view_of}
+use Rattle.table_nodes.specs.NodeView.{row_of, stretch_at, tree_at, node_view_of}
 use Rattle.node_table.specs.Placing.{with_place}
 use Rattle.table_nodes.specs.declared.link.Link.{Link}
 use Rattle.table_nodes.specs.declared.link.Link.TheVariants.{ToLeaf, ToNode}
@@ -48,8 +48,8 @@ last_tree x y a b key left right top p q r h =
     let first : TableNode = record left { place = Some p } in
     let second : TableNode = record right { place = Some q } in
     let last : TableNode = record top { place = Some r } in
-    let v = view_of [] first in
-    let w = view_of (v ∷ []) second in
+    let v = node_view_of [] first in
+    let w = node_view_of (v ∷ []) second in
     let below = loaded_row (v ∷ w ∷ []) last (ap (λ o. is_none o) h.top_loaded) in
     let one = loaded_row [] first (ap (λ o. is_none o) h.left_loaded) ∙ ap (λ (l : List Link). row_of [] l) h.left_leaf in
     let other = loaded_row (v ∷ []) second (ap (λ o. is_none o) h.right_loaded) ∙ ap (λ (l : List Link). row_of (v ∷ []) l) h.right_leaf in

@@ -5,8 +5,8 @@ use Rattle.ubifs_base.specs.declared.key.Key.{Key}
 use Rattle.index_tree.specs.declared.leaf.Leaf.{Leaf}
 use Rattle.index_media.specs.KeyedRow.{KeyedRow, no_more, leaf_in, node_in}
 use Rattle.index_media.specs.PlacedRow.{Stretch}
-use Rattle.table_nodes.specs.NodeView.{NodeView, node_before, linked_before, row_of, views, tree_at, IsRootIn}
-use Rattle.table_nodes.specs.Links.{row_before, IsLinkIn, AreLinksIn, IsAdded}
+use Rattle.table_nodes.specs.NodeView.{NodeView, node_before, linked_before, row_of, node_views, tree_at, IsRootIn}
+use Rattle.table_nodes.specs.Links.{row_before, IsLinkIn, AreLinksIn, AreNodesAdded}
 use Rattle.table_nodes.specs.declared.link.Link.{Link}
 use Rattle.table_nodes.specs.declared.link.Link.TheVariants.{ToLeaf, ToNode}
 use Rattle.table_nodes.specs.declared.node.Root.{Root}
@@ -14,10 +14,10 @@ use Rattle.table_nodes.specs.declared.node.TableNode.{TableNode}
 
 -- the law of the table that roots stay
 abbrev pub Stays : Type 0
-Stays = (old new : List TableNode) (root : Option Root) → IsAdded old new → IsRootIn old root → tree_at new root ≡ tree_at old root
+Stays = (old new : List TableNode) (root : Option Root) → AreNodesAdded old new → IsRootIn old root → tree_at new root ≡ tree_at old root
 
 -- ---- added nodes
-added_longer : (old new : List TableNode) → IsAdded old new → length old ≤ length new
+added_longer : (old new : List TableNode) → AreNodesAdded old new → length old ≤ length new
 added_longer old new a = let both = ap length a.is in let sum = length-append old a.more in omega (arith, both, sum)
 
 -- ---- a node before nothing, and before a row
@@ -32,22 +32,22 @@ rest_behind key (Some v) rest = refl
 
 pub made_before : (nodes : List TableNode) (key : Key) (number : ℕ) (place : Option Stretch) (children rest : KeyedRow)
     → tree_at nodes (Some (record { key = key; number = number })) ≡ node_in key place children no_more
-    → linked_before (views nodes) (ToNode key number) rest ≡ node_in key place children rest
-made_before nodes key number place children rest e = rest_behind key (slice_get (views nodes) number) rest ∙ ap (λ t. with_rest t rest) e
+    → linked_before (node_views nodes) (ToNode key number) rest ≡ node_in key place children rest
+made_before nodes key number place children rest e = rest_behind key (slice_get (node_views nodes) number) rest ∙ ap (λ t. with_rest t rest) e
 
 -- ---- links that were there
-link_kept : Stays → (old new : List TableNode) (link : Link) (rest : KeyedRow) → IsAdded old new → IsLinkIn (length old) link
-    → linked_before (views new) link rest ≡ linked_before (views old) link rest
+link_kept : Stays → (old new : List TableNode) (link : Link) (rest : KeyedRow) → AreNodesAdded old new → IsLinkIn (length old) link
+    → linked_before (node_views new) link rest ≡ linked_before (node_views old) link rest
 link_kept s old new (ToLeaf x) rest a h = refl
 link_kept s old new (ToNode key number) rest a h =
-    rest_behind key (slice_get (views new) number) rest ∙ ap (λ t. with_rest t rest) (s old new (Some (record { key = key; number = number })) a h)
-    ∙ sym (rest_behind key (slice_get (views old) number) rest)
+    rest_behind key (slice_get (node_views new) number) rest ∙ ap (λ t. with_rest t rest) (s old new (Some (record { key = key; number = number })) a h)
+    ∙ sym (rest_behind key (slice_get (node_views old) number) rest)
 
-pub links_kept : Stays → (old new : List TableNode) (links : List Link) (rest : KeyedRow) → IsAdded old new → AreLinksIn (length old) links
-    → row_before (views new) links rest ≡ row_before (views old) links rest
+pub links_kept : Stays → (old new : List TableNode) (links : List Link) (rest : KeyedRow) → AreNodesAdded old new → AreLinksIn (length old) links
+    → row_before (node_views new) links rest ≡ row_before (node_views old) links rest
 links_kept s old new [] rest a h = refl
 links_kept s old new (link ∷ links) rest a h =
-    link_kept s old new link (row_before (views new) links rest) a h.0 ∙ ap (linked_before (views old) link) (links_kept s old new links rest a h.1)
+    link_kept s old new link (row_before (node_views new) links rest) a h.0 ∙ ap (linked_before (node_views old) link) (links_kept s old new links rest a h.1)
 
 link_later : (m n : ℕ) (link : Link) → m ≤ n → IsLinkIn m link → IsLinkIn n link
 link_later m n (ToLeaf x) l h = tt
@@ -57,7 +57,7 @@ links_later : (m n : ℕ) (links : List Link) → m ≤ n → AreLinksIn m links
 links_later m n [] l h = tt
 links_later m n (link ∷ links) l h = (link_later m n link l h.0, links_later m n links l h.1)
 
-pub links_in_added : (old new : List TableNode) (links : List Link) → IsAdded old new → AreLinksIn (length old) links → AreLinksIn (length new) links
+pub links_in_added : (old new : List TableNode) (links : List Link) → AreNodesAdded old new → AreLinksIn (length old) links → AreLinksIn (length new) links
 links_in_added old new links a h = links_later (length old) (length new) links (added_longer old new a) h
 
 pub links_in_append : (n : ℕ) (xs ys : List Link) → AreLinksIn n xs → AreLinksIn n ys → AreLinksIn n (xs ++ ys)
@@ -73,16 +73,16 @@ before_append seen [] ys rest = refl
 before_append seen (x ∷ xs) ys rest = ap (linked_before seen x) (before_append seen xs ys rest)
 
 -- a link to a node that was added, behind links that were there
-pub node_behind : Stays → (old now : List TableNode) (links pushed : List Link) (key : Key) (number : ℕ) (place : Option Stretch) (children rest : KeyedRow) → IsAdded old now → AreLinksIn (length old) links
-    → pushed ≡ links ++ ToNode key number ∷ [] → linked_before (views now) (ToNode key number) rest ≡ node_in key place children rest
-    → row_before (views now) pushed rest ≡ row_before (views old) links (node_in key place children rest)
+pub node_behind : Stays → (old now : List TableNode) (links pushed : List Link) (key : Key) (number : ℕ) (place : Option Stretch) (children rest : KeyedRow) → AreNodesAdded old now → AreLinksIn (length old) links
+    → pushed ≡ links ++ ToNode key number ∷ [] → linked_before (node_views now) (ToNode key number) rest ≡ node_in key place children rest
+    → row_before (node_views now) pushed rest ≡ row_before (node_views old) links (node_in key place children rest)
 node_behind s old now links pushed key number place children rest a h p e =
-    ap (λ v. row_before (views now) v rest) p ∙ before_append (views now) links (ToNode key number ∷ []) rest ∙ ap (row_before (views now) links) e
+    ap (λ v. row_before (node_views now) v rest) p ∙ before_append (node_views now) links (ToNode key number ∷ []) rest ∙ ap (row_before (node_views now) links) e
     ∙ links_kept s old now links (node_in key place children rest) a h
 
 pub leaf_behind : (seen : List NodeView) (links pushed : List Link) (x : Leaf) (rest : KeyedRow) → pushed ≡ links ++ ToLeaf x ∷ [] → row_before seen pushed rest ≡ row_before seen links (leaf_in x rest)
 leaf_behind seen links pushed x rest p = ap (λ v. row_before seen v rest) p ∙ before_append seen links (ToLeaf x ∷ []) rest
 
 -- the row that was loaded among the links of a node
-pub made_row : (old now : List TableNode) (made links : List Link) (row : KeyedRow) → made ≡ [] → row_before (views now) links no_more ≡ row_before (views old) made row → row_of (views now) links ≡ row
-made_row old now made links row e h = sym (before_none (views now) links) ∙ h ∙ ap (λ v. row_before (views old) v row) e
+pub made_row : (old now : List TableNode) (made links : List Link) (row : KeyedRow) → made ≡ [] → row_before (node_views now) links no_more ≡ row_before (node_views old) made row → row_of (node_views now) links ≡ row
+made_row old now made links row e h = sym (before_none (node_views now) links) ∙ h ∙ ap (λ v. row_before (node_views old) v row) e

@@ -14,7 +14,7 @@ use Rattle.index_media.specs.KeyedRow.{no_more, all_clean}
 use Rattle.index_media.specs.PlacedRow.{PlacedRow, ended, leaf_at, node_at, plain, branches_of, stretch_of}
 use Rattle.index_media.specs.Stored.{AreStored}
 use Rattle.node_cache.specs.Loaded.{IsRowOn}
-use Rattle.node_cache.specs.RowsOn.{below, clean_bounded, said_by}
+use Rattle.node_cache.specs.RowsOn.{below, clean_bounded, said_is_node}
 use Rattle.table_nodes.specs.Sound.{IsSoundView}
 use Rattle.ubi_volume.specs.Volume.{VolumeState}
 
@@ -33,7 +33,7 @@ unfolding AreStored
 clean_keys media levels ended k h = tt
 clean_keys media levels (leaf_at x rest) k h = (k.0, clean_keys media levels rest k.1 h.1)
 clean_keys media levels (node_at b c rest) k h =
-    let own = said_by media b (record { level = levels - 1; branches = branches_of c }) h.1 in
+    let own = said_is_node media b (record { level = levels - 1; branches = branches_of c }) h.1 in
     (k.0, clean_keys media (levels - 1) c own.keys h.2, clean_keys media levels rest k.1 h.3)
 
 -- what is below a branch is a node's
@@ -41,7 +41,7 @@ pub sound_below : (s : VolumeState) (fanout level : ℕ) (branch : Branch) (row 
     → IsSoundView fanout (record { level = level; place = Some (stretch_of branch); children = all_clean row })
 sound_below s fanout level branch row h =
     let p = below s fanout level branch row h in
-    let own = said_by s.holds branch (record { level = level; branches = branches_of row }) p.said in
+    let own = said_is_node s.holds branch (record { level = level; branches = branches_of row }) p.said in
     let F : Shape → Type 0 = λ t. fits fanout (node t done) ≡ true in
     let L : Shape → Type 0 = λ t. levelled level t ≡ true in (
       subst F (sym (clean_bare row)) h.fits,
@@ -54,9 +54,3 @@ pub none_clean : (row : PlacedRow) (branches : List Branch) → branches_of row 
 none_clean ended branches e z = refl
 none_clean (leaf_at x rest) branches e z = let long = ap length e in absurd (omega (arith, long, z))
 none_clean (node_at b c rest) branches e z = let long = ap length e in absurd (omega (arith, long, z))
-
--- a row that stands on a medium is clean
-pub all_is_clean : (row : PlacedRow) → is_clean_row (all_clean row) ≡ true
-all_is_clean ended = refl
-all_is_clean (leaf_at x rest) = all_is_clean rest
-all_is_clean (node_at branch children rest) = rw (all_is_clean children, all_is_clean rest) refl

@@ -6,8 +6,8 @@ use Rattle.index_media.specs.PlacedRow.{branch_to, branches_of}
 use Rattle.media_sys.specs.Index.{Index}
 use Rattle.media_sys.specs.declared.branch.Branch.{Branch}
 use Rattle.node_table.specs.Clean.{IsReadyNode}
-use Rattle.table_nodes.specs.NodeView.{NodeView, views, children_in}
-use Rattle.node_table.specs.Pruning.{place_in}
+use Rattle.table_nodes.specs.NodeView.{NodeView, node_views, children_in}
+use Rattle.node_table.specs.Pruning.{stretch_in}
 use Rattle.table_nodes.specs.declared.link.Link.{Link}
 use Rattle.table_nodes.specs.declared.link.Link.TheVariants.{ToLeaf, ToNode}
 use Rattle.table_nodes.specs.declared.node.NodePlace.{NodePlace}
@@ -22,7 +22,7 @@ pub record IsNextNode (index : PagedIndex) (number : ℕ) : Type 0 where
 -- the branch to what a link leads to
 abbrev pub link_branch : List NodeView → Link → Branch
 link_branch seen (ToLeaf x) = branch_to x
-link_branch seen (ToNode key number) = node_branch key (place_in (slice_get seen number))
+link_branch seen (ToNode key number) = node_branch key (stretch_in (slice_get seen number))
 
 -- a node's level
 abbrev pub level_in : Option NodeView → ℕ
@@ -31,12 +31,12 @@ level_in (Some v) = v.level
 
 -- what is below a node
 abbrev pub below_node : PagedIndex → ℕ → KeyedRow
-below_node index number = children_in (slice_get (views index.table.nodes.items) number)
+below_node index number = children_in (slice_get (node_views index.table.nodes.items) number)
 
 -- what the node says as an index node of the medium: its level, and the branches to its children
 abbrev pub said_of : PagedIndex → ℕ → Index
 said_of index number = record {
-  level = level_in (slice_get (views index.table.nodes.items) number);
+  level = level_in (slice_get (node_views index.table.nodes.items) number);
   branches = branches_of (placed_of (below_node index number));
 }
 

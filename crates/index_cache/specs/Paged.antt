@@ -4,14 +4,14 @@ use Rattle.index_tree.specs.declared.leaf.Leaf.{Leaf}
 use Rattle.index_media.specs.KeyedRow.{KeyedRow}
 use Rattle.node_table.specs.Dirty.{dirty_below}
 use Rattle.table_nodes.specs.NodeView.{tree_at, leaves_at}
-use Rattle.table_nodes.specs.Links.{IsAdded}
+use Rattle.table_nodes.specs.Links.{AreNodesAdded}
 use Rattle.node_table.specs.Staging.{IsSoundRoot}
 use Rattle.table_nodes.specs.declared.node.Root.{Root}
 use Rattle.index_cache.specs.declared.paged.PagedIndex.{PagedIndex}
 
 -- its shape, with the keys of branches, and with places where nodes are clean
-abbrev pub tree_of : PagedIndex → KeyedRow
-tree_of index = tree_at index.table.nodes.items index.root
+abbrev pub keyed_tree_of : PagedIndex → KeyedRow
+keyed_tree_of index = tree_at index.table.nodes.items index.root
 
 -- its leaves from left to right
 abbrev pub leaves_of : PagedIndex → List Leaf
@@ -32,7 +32,7 @@ fanout_of index = index.table.fanout
 -- an index keeps its nodes, the most children that they have, and what is frozen, with its places and its dirty nodes; other
 -- nodes may have come behind them
 pub record KeepsNodes (old new : PagedIndex) : Type 0 where
-  pub added : IsAdded old.table.nodes.items new.table.nodes.items
+  pub added : AreNodesAdded old.table.nodes.items new.table.nodes.items
   pub fanout : fanout_of new ≡ fanout_of old
   pub frozen : new.frozen ≡ old.frozen
   pub frozen_tree : frozen_of new ≡ frozen_of old

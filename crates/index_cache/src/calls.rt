@@ -11,17 +11,17 @@ ghost use Rattle.index_tree.specs.RangeRemoval.{within_range, outside_range};
 ghost use Rattle.index_tree.specs.Removal.{holds, without};
 ghost use Rattle.index_tree.specs.Replacement.{swapped};
 ghost use Rattle.index_tree.specs.Shape.{fits, node_count, shape_weight};
-ghost use Rattle.node_table.specs.Changing.{IsChange, AreChanges, changed, changed_by, leaves_after, leaves_after_all};
+ghost use Rattle.node_table.specs.Changing.{IsChange, AreChanges, changed_row, changed_by, leaves_after_change, leaves_after_all};
 ghost use Rattle.node_table.specs.Exchange.{tree_without};
 ghost use Rattle.table_nodes.specs.NodeView.{tree_at, leaves_at};
 ghost use Rattle.node_table.specs.Staging.{IsSoundRoot};
 ghost use Rattle.ubifs_base.specs.Key.{IsKey};
-ghost use Rattle.index_cache.specs.Paged.{tree_of, leaves_of, frozen_of, fanout_of, KeepsNodes};
+ghost use Rattle.index_cache.specs.Paged.{keyed_tree_of, leaves_of, frozen_of, fanout_of, KeepsNodes};
 
 use crate::paged::PagedIndex;
 use index_media::a_range_removal_leaves_the_keys_of_branches;
 use index_tree::Leaf;
-use node_table::{Change, NodeTable, roots_stay};
+use node_table::{Change, NodeTable, TreeCounts, roots_stay};
 use std::alloc::Global;
 use table_nodes::Root;
 use ubifs_base::{Key, Memory};
@@ -37,7 +37,7 @@ impl PagedIndex {
     pub fn new(alloc: Global, fanout: u32) -> PagedIndex
         requires least { 3 ≤ fanout }
         requires most { fanout ≤ 256 }
-        ensures tree { tree_of result ≡ no_more }
+        ensures tree { keyed_tree_of result ≡ no_more }
         ensures frozen { frozen_of result ≡ no_more }
         ensures fanout { fanout_of result ≡ fanout }
     {
@@ -95,24 +95,20 @@ impl PagedIndex {
     pub fn trees_are_sound(&self)
         ensures seen { IsSoundRoot self.now.table.nodes.items self.now.root }
         ensures frozen { IsSoundRoot self.now.table.nodes.items self.now.frozen }
-        ensures fits { fits (fanout_of self.now) (bare (tree_of self.now)) ≡ true }
+        ensures fits { fits (fanout_of self.now) (bare (keyed_tree_of self.now)) ≡ true }
         ensures least { 3 ≤ fanout_of self.now }
     {
         self.table.trees_fit();
     }
 
-    /// The number of nodes.
-    pub fn nodes(&self) -> u64
-        ensures { result ≡ node_count (bare (tree_of self.now)) }
+    /// The number of nodes, and the weight: that number plus the number of full ones. It looks at all nodes.
+    ///
+    /// `Memory` comes only if the numbers pass 64 bits.
+    pub fn size(&self) -> Result<TreeCounts, Memory>
+        ensures nodes { IfOk result (λ size. size.nodes ≡ node_count (bare (keyed_tree_of self.now))) }
+        ensures weight { IfOk result (λ size. size.weight ≡ shape_weight (fanout_of self.now) (bare (keyed_tree_of self.now))) }
     {
-        self.table.nodes(self.root)
-    }
-
-    /// The number of nodes plus the number of full ones.
-    pub fn weight(&self) -> u64
-        ensures { result ≡ shape_weight (fanout_of self.now) (bare (tree_of self.now)) }
-    {
-        self.table.weight(self.root)
+        self.table.size(self.root)
     }
 
     /// Puts the leaf after all leaves whose key isn't greater. Nodes on its way are dirty, and all others keep their places.
@@ -120,9 +116,9 @@ impl PagedIndex {
     /// After `Memory` the index is as before.
     pub fn insert(&mut self, alloc: Global, leaf: Leaf) -> Result<(), Memory>
         requires key { IsKey leaf.key }
-        ensures tree { OnOk result (tree_of self.new ≡ with_leaf_by_keys (fanout_of self.old) leaf (tree_of self.old)) }
+        ensures tree { OnOk result (keyed_tree_of self.new ≡ with_leaf_by_keys (fanout_of self.old) leaf (keyed_tree_of self.old)) }
         ensures leaves { OnOk result (leaves_of self.new ≡ placed leaf (leaves_of self.old)) }
-        ensures err { OnErr result (tree_of self.new ≡ tree_of self.old) }
+        ensures err { OnErr result (keyed_tree_of self.new ≡ keyed_tree_of self.old) }
         ensures kept { KeepsNodes self.old self.new }
     {
         self.make(alloc, Change::Insert(leaf))
@@ -134,9 +130,9 @@ impl PagedIndex {
     /// After `Memory` the index is as before.
     pub fn remove(&mut self, alloc: Global, leaf: &Leaf) -> Result<bool, Memory>
         ensures found { IfOk result (λ found. found ≡ holds leaf.now (leaves_of self.old)) }
-        ensures tree { OnOk result (tree_of self.new ≡ tree_without leaf.now (tree_of self.old)) }
+        ensures tree { OnOk result (keyed_tree_of self.new ≡ tree_without leaf.now (keyed_tree_of self.old)) }
         ensures leaves { OnOk result (leaves_of self.new ≡ without leaf.now (leaves_of self.old)) }
-        ensures err { OnErr result (tree_of self.new ≡ tree_of self.old) }
+        ensures err { OnErr result (keyed_tree_of self.new ≡ keyed_tree_of self.old) }
         ensures kept { KeepsNodes self.old self.new }
     {
         let found = self.holds(leaf);
@@ -152,9 +148,9 @@ impl PagedIndex {
         requires key { IsKey new.key }
         requires one_key { leaf_rank new ≡ leaf_rank old.now }
         ensures found { IfOk result (λ found. found ≡ holds old.now (leaves_of self.old)) }
-        ensures tree { OnOk result (tree_of self.new ≡ replaced_by_keys old.now new (tree_of self.old)) }
+        ensures tree { OnOk result (keyed_tree_of self.new ≡ replaced_by_keys old.now new (keyed_tree_of self.old)) }
         ensures leaves { OnOk result (leaves_of self.new ≡ swapped old.now new (leaves_of self.old)) }
-        ensures err { OnErr result (tree_of self.new ≡ tree_of self.old) }
+        ensures err { OnErr result (keyed_tree_of self.new ≡ keyed_tree_of self.old) }
         ensures kept { KeepsNodes self.old self.new }
     {
         let found = self.holds(old);
@@ -173,9 +169,9 @@ impl PagedIndex {
     /// After `Memory` the index is as before.
     pub fn remove_range(&mut self, alloc: Global, from: &Key, to: &Key) -> Result<u64, Memory>
         ensures number { IfOk result (λ number. number ≡ min (length (within_range (key_rank from.now) (key_rank to.now) (leaves_of self.old))) (2 ^ 64 - 1)) }
-        ensures tree { OnOk result (tree_of self.new ≡ without_range_by_keys (key_rank from.now) (key_rank to.now) (tree_of self.old)) }
+        ensures tree { OnOk result (keyed_tree_of self.new ≡ without_range_by_keys (key_rank from.now) (key_rank to.now) (keyed_tree_of self.old)) }
         ensures leaves { OnOk result (leaves_of self.new ≡ outside_range (key_rank from.now) (key_rank to.now) (leaves_of self.old)) }
-        ensures err { OnErr result (tree_of self.new ≡ tree_of self.old) }
+        ensures err { OnErr result (keyed_tree_of self.new ≡ keyed_tree_of self.old) }
         ensures kept { KeepsNodes self.old self.new }
     {
         roots_stay();
@@ -190,10 +186,10 @@ impl PagedIndex {
     /// After `Memory` the table of nodes is as before too.
     pub fn stage(&mut self, alloc: Global, changes: &[Change]) -> Result<Staged, Memory>
         requires changes { AreChanges changes.now }
-        ensures made { IfOk result (λ staged. tree_at self.new.table.nodes.items staged.root ≡ changed_by (fanout_of self.old) changes.now (tree_of self.old)) }
+        ensures made { IfOk result (λ staged. tree_at self.new.table.nodes.items staged.root ≡ changed_by (fanout_of self.old) changes.now (keyed_tree_of self.old)) }
         ensures leaves { IfOk result (λ staged. leaves_at self.new.table.nodes.items staged.root ≡ leaves_after_all changes.now (leaves_of self.old)) }
         ensures root { IfOk result (λ staged. IsSoundRoot self.new.table.nodes.items staged.root) }
-        ensures tree { tree_of self.new ≡ tree_of self.old }
+        ensures tree { keyed_tree_of self.new ≡ keyed_tree_of self.old }
         ensures kept { KeepsNodes self.old self.new }
         ensures err { OnErr result (self.new.table.nodes.items ≡ self.old.table.nodes.items) }
     {
@@ -205,9 +201,9 @@ impl PagedIndex {
     // Makes one change.
     fn make(&mut self, alloc: Global, change: Change) -> Result<(), Memory>
         requires change { IsChange change }
-        ensures tree { OnOk result (tree_of self.new ≡ changed (fanout_of self.old) change (tree_of self.old)) }
-        ensures leaves { OnOk result (leaves_of self.new ≡ leaves_after change (leaves_of self.old)) }
-        ensures err { OnErr result (tree_of self.new ≡ tree_of self.old) }
+        ensures tree { OnOk result (keyed_tree_of self.new ≡ changed_row (fanout_of self.old) change (keyed_tree_of self.old)) }
+        ensures leaves { OnOk result (leaves_of self.new ≡ leaves_after_change change (leaves_of self.old)) }
+        ensures err { OnErr result (keyed_tree_of self.new ≡ keyed_tree_of self.old) }
         ensures kept { KeepsNodes self.old self.new }
     {
         let changes: &[Change] = &[change];
@@ -219,7 +215,7 @@ impl PagedIndex {
     /// Shows changes that were staged. It takes no memory, and can't fail.
     pub fn adopt(&mut self, staged: Staged)
         requires root { IsSoundRoot self.old.table.nodes.items staged.root }
-        ensures tree { tree_of self.new ≡ tree_at self.old.table.nodes.items staged.root }
+        ensures tree { keyed_tree_of self.new ≡ tree_at self.old.table.nodes.items staged.root }
         ensures nodes { self.new.table.nodes.items ≡ self.old.table.nodes.items }
         ensures fanout { fanout_of self.new ≡ fanout_of self.old }
         ensures root { self.new.root ≡ staged.root }

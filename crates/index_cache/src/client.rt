@@ -8,8 +8,8 @@ ghost use Rattle.index_tree.specs.Shape.{contents};
 ghost use Rattle.node_table.specs.Placing.{KeepsPlaces};
 ghost use Rattle.node_table.specs.Changing.{AreChanges, changed_by, leaves_after_all};
 ghost use Rattle.ubifs_base.specs.Key.{IsKey};
-ghost use Rattle.node_cache.specs.Loaded.{IsRead, IsIndexOn};
-ghost use Rattle.index_cache.specs.Paged.{tree_of, leaves_of, frozen_of, fanout_of, KeepsNodes};
+ghost use Rattle.node_cache.specs.Loaded.{IsReadOnlyCall, IsIndexOn};
+ghost use Rattle.index_cache.specs.Paged.{keyed_tree_of, leaves_of, frozen_of, fanout_of, KeepsNodes};
 
 use crate::buffer::NodeBuffer;
 use crate::paged::PagedIndex;
@@ -34,10 +34,10 @@ pub fn load_and_change<V: Volume>(
     requires index { (placed : PlacedRow) × IsIndexOn (V.state volume.old) geo.now.fanout root.now placed }
     requires changes { AreChanges changes.now }
     ensures tree { (placed : PlacedRow) → IsIndexOn (V.state volume.old) geo.now.fanout root.now placed
-        → IfOk result (λ made. tree_of made ≡ changed_by geo.now.fanout changes.now (all_clean placed)) }
+        → IfOk result (λ made. keyed_tree_of made ≡ changed_by geo.now.fanout changes.now (all_clean placed)) }
     ensures leaves { (placed : PlacedRow) → IsIndexOn (V.state volume.old) geo.now.fanout root.now placed
         → IfOk result (λ made. leaves_of made ≡ leaves_after_all changes.now (contents (plain placed))) }
-    ensures reads { IsRead (V.state volume.old) (V.state volume.new) result }
+    ensures reads { IsReadOnlyCall (V.state volume.old) (V.state volume.new) result }
 {
     an_insertion_goes_by_the_keys_of_branches();
     let mut index = PagedIndex::at_root(alloc, volume, geo, root)?;
@@ -58,7 +58,7 @@ pub fn adopt_both(
     requires first { AreChanges first.now }
     requires second { AreChanges second.now }
     requires key { IsKey leaf.key }
-    ensures tree { OnOk result (tree_of index.new ≡ changed_by (fanout_of index.old) second.now (tree_of index.old)) }
+    ensures tree { OnOk result (keyed_tree_of index.new ≡ changed_by (fanout_of index.old) second.now (keyed_tree_of index.old)) }
     ensures kept { KeepsNodes index.old index.new }
 {
     roots_stay();
@@ -80,7 +80,7 @@ pub fn adopt_after_a_place(
     offs: u32,
 ) -> Result<(), Memory>
     requires changes { AreChanges changes.now }
-    ensures tree { OnOk result (KeepsPlaces (changed_by (fanout_of index.old) changes.now (tree_of index.old)) (tree_of index.new)) }
+    ensures tree { OnOk result (KeepsPlaces (changed_by (fanout_of index.old) changes.now (keyed_tree_of index.old)) (keyed_tree_of index.new)) }
     ensures frozen { KeepsPlaces (frozen_of index.old) (frozen_of index.new) }
 {
     places_are_kept();
@@ -107,7 +107,7 @@ fn write_frozen(
 ) -> Result<bool, Memory>
     ensures clean { IfOk result (λ done. IsTrue done → frozen_of index.new ≡ all_clean (placed_of (frozen_of index.new))) }
     ensures frozen { KeepsPlaces (frozen_of index.old) (frozen_of index.new) }
-    ensures tree { KeepsPlaces (tree_of index.old) (tree_of index.new) }
+    ensures tree { KeepsPlaces (keyed_tree_of index.old) (keyed_tree_of index.new) }
 {
     places_are_kept();
     let Some(found) = index.next_dirty() else {
@@ -137,8 +137,8 @@ pub fn commit_beside_changes(
     requires changes { AreChanges changes.now }
     ensures clean { IfOk result (λ done. IsTrue done → all_clean (placed_of (frozen_of index.new)) ≡ frozen_of index.new) }
     ensures leaves { IfOk result (λ done. IsTrue done → contents (plain (placed_of (frozen_of index.new))) ≡ leaves_of index.old) }
-    ensures kept { OnOk result (KeepsPlaces (tree_of index.old) (frozen_of index.new)) }
-    ensures tree { OnOk result (KeepsPlaces (changed_by (fanout_of index.old) changes.now (tree_of index.old)) (tree_of index.new)) }
+    ensures kept { OnOk result (KeepsPlaces (keyed_tree_of index.old) (frozen_of index.new)) }
+    ensures tree { OnOk result (KeepsPlaces (changed_by (fanout_of index.old) changes.now (keyed_tree_of index.old)) (keyed_tree_of index.new)) }
 {
     roots_stay();
     places_are_kept();

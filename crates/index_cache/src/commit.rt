@@ -13,7 +13,7 @@ ghost use Rattle.node_table.specs.Placing.{with_place, IsPlacedRow, without_numb
 ghost use Rattle.node_table.specs.Staging.{IsSoundRoot};
 ghost use Rattle.table_nodes.specs.declared.node.Root.{Root as ARoot};
 ghost use Rattle.index_cache.specs.Commit.{IsNextNode, said_of, below_node, node_length, place_for};
-ghost use Rattle.index_cache.specs.Paged.{tree_of, frozen_of, dirty_of, fanout_of, KeepsRoots};
+ghost use Rattle.index_cache.specs.Paged.{keyed_tree_of, frozen_of, dirty_of, fanout_of, KeepsRoots};
 
 use crate::buffer::NodeBuffer;
 use crate::paged::PagedIndex;
@@ -34,8 +34,8 @@ impl PagedIndex {
     /// Freezes the index that is seen, for a commit to write it. Changes that are made after it add nodes, and leave what is
     /// frozen. What was frozen before is frozen no more.
     pub fn freeze(&mut self)
-        ensures frozen { frozen_of self.new ≡ tree_of self.old }
-        ensures tree { tree_of self.new ≡ tree_of self.old }
+        ensures frozen { frozen_of self.new ≡ keyed_tree_of self.old }
+        ensures tree { keyed_tree_of self.new ≡ keyed_tree_of self.old }
         ensures nodes { self.new.table.nodes.items ≡ self.old.table.nodes.items }
         ensures root { self.new.frozen ≡ self.old.root }
         ensures seen { self.new.root ≡ self.old.root }
@@ -120,7 +120,7 @@ impl PagedIndex {
         requires next { IsNextNode self.old node }
         ensures nodes { self.new.table.nodes.items ≡ with_place node (place_for lnum offs (said_of self.old node)) self.old.table.nodes.items }
         ensures frozen { IsPlacedRow (place_for lnum offs (said_of self.old node)) (below_node self.old node) (frozen_of self.old) (frozen_of self.new) }
-        ensures tree { IsPlacedRow (place_for lnum offs (said_of self.old node)) (below_node self.old node) (tree_of self.old) (tree_of self.new) }
+        ensures tree { IsPlacedRow (place_for lnum offs (said_of self.old node)) (below_node self.old node) (keyed_tree_of self.old) (keyed_tree_of self.new) }
         ensures trees { (root : Option ARoot) → IsPlacedRow (place_for lnum offs (said_of self.old node)) (below_node self.old node) (tree_at self.old.table.nodes.items root) (tree_at self.new.table.nodes.items root) }
         ensures dirty { dirty_of self.new ≡ without_number node (dirty_of self.old) }
         ensures kept { KeepsRoots self.old self.new }

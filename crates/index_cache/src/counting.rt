@@ -1,10 +1,7 @@
 // How many nodes a commit has to write.
 
-ghost use Rattle.std.specs.Prelude.{◌≡◌, ◌≤◌, ◌∷◌, [], ◌-◌, ◌^◌, min, length, slice_get};
-ghost use Rattle.index_media.specs.KeyedRow.{bare};
-ghost use Rattle.index_tree.specs.Shape.{node, done, node_count};
+ghost use Rattle.std.specs.Prelude.{◌≡◌, ◌∷◌, [], ◌-◌, ◌^◌, min, length};
 ghost use Rattle.node_table.specs.Dirty.{dirty_lists, dirty_among, dirty_from};
-ghost use Rattle.table_nodes.specs.NodeView.{views, row_of, children_in};
 ghost use Rattle.index_cache.specs.Paged.{dirty_of};
 
 use crate::paged::PagedIndex;
@@ -18,7 +15,7 @@ impl PagedIndex {
     pub fn dirty_nodes(&self) -> u64
         ensures { result ≡ length (dirty_of self.now) }
     {
-        self.table.nodes(self.frozen);
+        self.table.most_dirty(self.frozen);
         match self.frozen {
             None => 0,
             Some(root) => count_at(&self.table, root.number),
@@ -26,11 +23,10 @@ impl PagedIndex {
     }
 }
 
-/// The dirty nodes at a node and below it, of which there are no more than there are nodes. `u64::MAX` stands for more as well.
+/// The dirty nodes at a node and below it. `u64::MAX` stands for more as well.
 #[cycle(counting)]
 fn count_at(table: &NodeTable, number: u64) -> u64
-    ensures number { result ≡ min (length (dirty_from table.now.nodes.items number)) (2 ^ 64 - 1) }
-    ensures most { length (dirty_from table.now.nodes.items number) ≤ node_count (node (bare (children_in (slice_get (views table.now.nodes.items) number))) done) }
+    ensures { result ≡ min (length (dirty_from table.now.nodes.items number)) (2 ^ 64 - 1) }
 {
     match table.node_at(number) {
         None => 0,
@@ -46,8 +42,7 @@ fn count_at(table: &NodeTable, number: u64) -> u64
 /// Those to which these links lead.
 #[cycle(counting)]
 fn count_among(table: &NodeTable, links: &[Link]) -> u64
-    ensures number { result ≡ min (length (dirty_among (dirty_lists table.now.nodes.items) links.now)) (2 ^ 64 - 1) }
-    ensures most { length (dirty_among (dirty_lists table.now.nodes.items) links.now) ≤ node_count (bare (row_of (views table.now.nodes.items) links.now)) }
+    ensures { result ≡ min (length (dirty_among (dirty_lists table.now.nodes.items) links.now)) (2 ^ 64 - 1) }
 {
     match links.split_first() {
         None => 0,
@@ -61,10 +56,9 @@ fn count_among(table: &NodeTable, links: &[Link]) -> u64
 
 /// Those to which one link leads.
 #[cycle(counting)]
-#[tactic(auto, using(crate::proofs::DirtyCounted::node_most))]
+#[tactic(auto, using(crate::proofs::DirtyCounted::node_counted))]
 fn count_link(table: &NodeTable, link: &Link) -> u64
-    ensures number { result ≡ min (length (dirty_among (dirty_lists table.now.nodes.items) (link.now ∷ []))) (2 ^ 64 - 1) }
-    ensures most { length (dirty_among (dirty_lists table.now.nodes.items) (link.now ∷ [])) ≤ node_count (bare (row_of (views table.now.nodes.items) (link.now ∷ []))) }
+    ensures { result ≡ min (length (dirty_among (dirty_lists table.now.nodes.items) (link.now ∷ []))) (2 ^ 64 - 1) }
 {
     match *link {
         Link::ToLeaf(_) => 0,

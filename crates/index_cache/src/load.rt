@@ -4,13 +4,13 @@ ghost use Rattle.std.specs.Prelude.{◌≡◌, ◌+◌, ◌<◌, true, IfOk, OnO
 ghost use Rattle.index_media.specs.Clean.{is_clean_row};
 ghost use Rattle.index_media.specs.KeyedRow.{KeyedRow, no_more, node_in, all_clean};
 ghost use Rattle.index_media.specs.PlacedRow.{PlacedRow, ended, node_at, branches_of, stretch_of, leaf_of};
-ghost use Rattle.table_nodes.specs.NodeView.{views, row_of, linked_before};
+ghost use Rattle.table_nodes.specs.NodeView.{node_views, row_of, linked_before};
 ghost use Rattle.table_nodes.specs.Sound.{IsSoundView};
-ghost use Rattle.table_nodes.specs.Links.{row_before, AreLinksIn, IsAdded};
+ghost use Rattle.table_nodes.specs.Links.{row_before, AreLinksIn, AreNodesAdded};
 ghost use Rattle.table_nodes.specs.declared.link.Link.TheVariants.{ToNode};
 ghost use Rattle.ubifs_base.specs.declared.key.Key.{Key as AKey};
-ghost use Rattle.node_cache.specs.Loaded.{IsRead, IsIndexOn, IsRowOn};
-ghost use Rattle.index_cache.specs.Paged.{tree_of, frozen_of, fanout_of};
+ghost use Rattle.node_cache.specs.Loaded.{IsReadOnlyCall, IsIndexOn, IsRowOn};
+ghost use Rattle.index_cache.specs.Paged.{keyed_tree_of, frozen_of, fanout_of};
 
 use crate::paged::PagedIndex;
 use index_tree::Leaf;
@@ -41,11 +41,11 @@ fn add_clean(
     level: u16,
     links: Vec<Link>,
 ) -> Result<u64, Memory>
-    requires clean { is_clean_row (row_of (views table.old.nodes.items) links.items) ≡ true }
-    requires sound { IsSoundView table.old.fanout (record { level = level; place = Some (stretch_of branch.now); children = row_of (views table.old.nodes.items) links.items }) }
-    ensures made { IfOk result (λ number. (key : AKey) (rest : KeyedRow) → linked_before (views table.new.nodes.items) (ToNode key number) rest ≡ node_in key (Some (stretch_of branch.now)) (row_of (views table.old.nodes.items) links.items) rest) }
+    requires clean { is_clean_row (row_of (node_views table.old.nodes.items) links.items) ≡ true }
+    requires sound { IsSoundView table.old.fanout (record { level = level; place = Some (stretch_of branch.now); children = row_of (node_views table.old.nodes.items) links.items }) }
+    ensures made { IfOk result (λ number. (key : AKey) (rest : KeyedRow) → linked_before (node_views table.new.nodes.items) (ToNode key number) rest ≡ node_in key (Some (stretch_of branch.now)) (row_of (node_views table.old.nodes.items) links.items) rest) }
     ensures number { IfOk result (λ number. number < length table.new.nodes.items) }
-    ensures added { IsAdded table.old.nodes.items table.new.nodes.items }
+    ensures added { AreNodesAdded table.old.nodes.items table.new.nodes.items }
     ensures fanout { table.new.fanout ≡ table.old.fanout }
 {
     let place = NodePlace {
@@ -72,11 +72,11 @@ fn load_node<V: Volume>(
 ) -> Result<u64, AreaFault>
     requires row { (row : PlacedRow) × IsRowOn (V.state volume.old) table.old.fanout (level + 1) (node_at branch.now row ended) }
     ensures loaded { (row : PlacedRow) → IsRowOn (V.state volume.old) table.old.fanout (level + 1) (node_at branch.now row ended)
-        → IfOk result (λ number. (key : AKey) (rest : KeyedRow) → linked_before (views table.new.nodes.items) (ToNode key number) rest ≡ node_in key (Some (stretch_of branch.now)) (all_clean row) rest) }
+        → IfOk result (λ number. (key : AKey) (rest : KeyedRow) → linked_before (node_views table.new.nodes.items) (ToNode key number) rest ≡ node_in key (Some (stretch_of branch.now)) (all_clean row) rest) }
     ensures number { IfOk result (λ number. number < length table.new.nodes.items) }
-    ensures added { IsAdded table.old.nodes.items table.new.nodes.items }
+    ensures added { AreNodesAdded table.old.nodes.items table.new.nodes.items }
     ensures fanout { table.new.fanout ≡ table.old.fanout }
-    ensures reads { IsRead (V.state volume.old) (V.state volume.new) result }
+    ensures reads { IsReadOnlyCall (V.state volume.old) (V.state volume.new) result }
 {
     roots_stay();
     let node = read_node(alloc, volume, branch)?;
@@ -106,11 +106,11 @@ fn load_among<V: Volume>(
     requires row { (row : PlacedRow) × (branches_of row ≡ branches.now) × IsRowOn (V.state volume.old) table.old.fanout levels row }
     requires there { AreLinksIn (length table.old.nodes.items) links.old.items }
     ensures loaded { (row : PlacedRow) → branches_of row ≡ branches.now → IsRowOn (V.state volume.old) table.old.fanout levels row
-        → OnOk result (row_before (views table.new.nodes.items) links.new.items no_more ≡ row_before (views table.old.nodes.items) links.old.items (all_clean row)) }
+        → OnOk result (row_before (node_views table.new.nodes.items) links.new.items no_more ≡ row_before (node_views table.old.nodes.items) links.old.items (all_clean row)) }
     ensures there { OnOk result (AreLinksIn (length table.new.nodes.items) links.new.items) }
-    ensures added { IsAdded table.old.nodes.items table.new.nodes.items }
+    ensures added { AreNodesAdded table.old.nodes.items table.new.nodes.items }
     ensures fanout { table.new.fanout ≡ table.old.fanout }
-    ensures reads { IsRead (V.state volume.old) (V.state volume.new) result }
+    ensures reads { IsReadOnlyCall (V.state volume.old) (V.state volume.new) result }
 {
     roots_stay();
     match branches.split_first() {
@@ -143,10 +143,10 @@ impl PagedIndex {
         root: &Branch,
     ) -> Result<PagedIndex, AreaFault>
         requires index { (placed : PlacedRow) × IsIndexOn (V.state volume.old) geo.now.fanout root.now placed }
-        ensures loaded { (placed : PlacedRow) → IsIndexOn (V.state volume.old) geo.now.fanout root.now placed → IfOk result (λ made. tree_of made ≡ all_clean placed) }
+        ensures loaded { (placed : PlacedRow) → IsIndexOn (V.state volume.old) geo.now.fanout root.now placed → IfOk result (λ made. keyed_tree_of made ≡ all_clean placed) }
         ensures frozen { IfOk result (λ made. frozen_of made ≡ no_more) }
         ensures fanout { IfOk result (λ made. fanout_of made ≡ geo.now.fanout) }
-        ensures reads { IsRead (V.state volume.old) (V.state volume.new) result }
+        ensures reads { IsReadOnlyCall (V.state volume.old) (V.state volume.new) result }
     {
         let mut table = NodeTable::new(alloc, geo.fanout);
         let node = read_node(alloc, volume, root)?;

@@ -12,7 +12,7 @@ use table_nodes::Root;
 /// An index: nodes in a table, the root of those that are seen (none: the index is empty), and the root of those that a
 /// commit writes (none: there are none).
 ///
-/// Contracts see its shape, with keys of branches and places, as `tree_of self`, its leaves as `leaves_of self`, and what a
+/// Contracts see its shape, with keys of branches and places, as `keyed_tree_of self`, its leaves as `leaves_of self`, and what a
 /// commit writes as `frozen_of self`.
 #[derive(Drop)]
 pub struct PagedIndex {

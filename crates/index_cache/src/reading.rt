@@ -6,7 +6,7 @@ ghost use Rattle.media_sys.specs.Index.{Index as AnIndexNode};
 ghost use Rattle.ubifs_base.specs.Key.{IsKey};
 ghost use Rattle.ubifs_base.specs.declared.key.Key.{Key as AKey};
 ghost use Rattle.index_cache.specs.Loaded.{root_at};
-ghost use Rattle.node_cache.specs.Loaded.{IsRead};
+ghost use Rattle.node_cache.specs.Loaded.{IsReadOnlyCall};
 
 use media_sys::Branch;
 use node_cache::read_node;
@@ -28,7 +28,7 @@ pub fn read_root<V: Volume>(
     ensures first { (key : AKey) (said : AnIndexNode) → IsIndexNodeAt (V.state volume.old).holds (root_at place.now key) said
         → IfOk result (λ root. map (λ branch. branch.key) (take 1 said.branches) ≡ root.key ∷ []) }
     ensures key { IfOk result (λ root. IsKey root.key) }
-    ensures reads { IsRead (V.state volume.old) (V.state volume.new) result }
+    ensures reads { IsReadOnlyCall (V.state volume.old) (V.state volume.new) result }
 {
     let root = Branch {
         lnum: place.lnum,

@@ -4,8 +4,8 @@ ghost use Rattle.std.specs.Prelude.{◌≡◌, ◌≤◌, ◌+◌, ◌++◌, len
 ghost use Rattle.index_media.specs.Clean.{node_branch, placed_of};
 ghost use Rattle.index_media.specs.PlacedRow.{branches_of};
 ghost use Rattle.media_sys.specs.Index.{in_order, is_entry as is_entry_key, may_follow as may_follow_key};
-ghost use Rattle.table_nodes.specs.NodeView.{views, row_of};
-ghost use Rattle.node_table.specs.Pruning.{place_in};
+ghost use Rattle.table_nodes.specs.NodeView.{node_views, row_of};
+ghost use Rattle.node_table.specs.Pruning.{stretch_in};
 ghost use Rattle.ubifs_base.specs.Key.{key_words};
 ghost use Rattle.index_cache.specs.Commit.{link_branch};
 
@@ -73,7 +73,7 @@ pub fn are_in_order(before: Option<Key>, branches: &[Branch]) -> bool
 
 /// The branch to what a link leads to.
 fn branch_to(table: &NodeTable, link: &Link) -> Branch
-    ensures { result ≡ link_branch (views table.now.nodes.items) link.now }
+    ensures { result ≡ link_branch (node_views table.now.nodes.items) link.now }
 {
     match *link {
         Link::ToLeaf(leaf) => Branch {
@@ -88,7 +88,7 @@ fn branch_to(table: &NodeTable, link: &Link) -> Branch
 
 /// The branch to a node; to one without a place it leads nowhere.
 pub fn branch_to_node(table: &NodeTable, key: Key, number: u64) -> Branch
-    ensures { result ≡ node_branch key (place_in (slice_get (views table.now.nodes.items) number)) }
+    ensures { result ≡ node_branch key (stretch_in (slice_get (node_views table.now.nodes.items) number)) }
 {
     match table.node_at(number) {
         None => Branch {
@@ -117,7 +117,7 @@ pub fn branch_to_node(table: &NodeTable, key: Key, number: u64) -> Branch
 /// Pushes the branches to what links lead to.
 fn push_branches(table: &NodeTable, links: &[Link], branches: &mut Vec<Branch>)
     requires room { vec_len branches.old + length links.now ≤ vec_capacity branches.old }
-    ensures items { branches.new.items ≡ branches.old.items ++ map (link_branch (views table.now.nodes.items)) links.now }
+    ensures items { branches.new.items ≡ branches.old.items ++ map (link_branch (node_views table.now.nodes.items)) links.now }
     ensures room { vec_capacity branches.new ≡ vec_capacity branches.old }
 {
     let Some((link, rest)) = links.split_first() else {
@@ -131,7 +131,7 @@ fn push_branches(table: &NodeTable, links: &[Link], branches: &mut Vec<Branch>)
 pub fn tell_node(table: &NodeTable, node: &TableNode, said: &mut IdxNode)
     requires room { length node.now.links.items ≤ vec_capacity said.old.branches }
     ensures level { said.new.level ≡ node.now.level }
-    ensures branches { said.new.branches.items ≡ branches_of (placed_of (row_of (views table.now.nodes.items) node.now.links.items)) }
+    ensures branches { said.new.branches.items ≡ branches_of (placed_of (row_of (node_views table.now.nodes.items) node.now.links.items)) }
     ensures room { vec_capacity said.new.branches ≡ vec_capacity said.old.branches }
 {
     said.branches.clear();

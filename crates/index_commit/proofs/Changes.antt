@@ -22,12 +22,13 @@ use Rattle.index_media.specs.PlacedRow.{PlacedRow, ended, leaf_at, node_at, Stre
 use Rattle.index_media.specs.Standing.{OfClean, OfCleanNodes, StandsAs}
 use Rattle.index_media.specs.Stored.{AreStored, IsIndexNodeAt}
 use Rattle.media_sys.specs.declared.branch.Branch.{Branch}
-use Rattle.node_table.specs.Changing.{changed}
+use Rattle.node_table.specs.Changing.{changed_row}
 use Rattle.node_table.specs.Exchange.{tree_without}
 use Rattle.node_table.specs.declared.change.Change.{Change}
 use Rattle.node_table.specs.declared.change.Change.TheVariants.{Insert, Remove, RemoveRange, Replace}
 use Rattle.index_commit.specs.Lebs.{IsGiven}
 use Rattle.index_commit.specs.Standing.{AreOutside, IsOutside}
+use Rattle.node_cache.specs.CleanRows.{all_is_clean, placed_again}
 
 -- ---- insertions
 front_clean : (P : Key → Stretch → KeyedRow → Type 0) (n : ℕ) (row : KeyedRow) → OfCleanNodes P row → OfCleanNodes P (keyed_front n row)
@@ -157,23 +158,13 @@ without_range_clean stay P f from to row g h = collapsed_clean P (pruned_by_keys
 
 -- ---- any change
 pub change_keeps : RowsStay → (f : ℕ) (change : Change) (contents : ℕ → List ℕ) (lebs : List ℕ) (row : KeyedRow) → fits f (bare row) ≡ true → AreOutside contents lebs row
-    → AreOutside contents lebs (changed f change row)
+    → AreOutside contents lebs (changed_row f change row)
 change_keeps stay f (Insert x) contents lebs row g h = with_leaf_clean (StandsAs contents (IsOutside lebs)) f x row h
 change_keeps stay f (Remove x) contents lebs row g h = without_clean (StandsAs contents (IsOutside lebs)) x row h
 change_keeps stay f (Replace gone come) contents lebs row g h = replaced_clean (StandsAs contents (IsOutside lebs)) gone come row h
 change_keeps stay f (RemoveRange from to) contents lebs row g h = without_range_clean stay (StandsAs contents (IsOutside lebs)) f (key_rank from) (key_rank to) row g h
 
 -- ---- an index that stands
-all_is_clean : (row : PlacedRow) → is_clean_row (all_clean row) ≡ true
-all_is_clean ended = refl
-all_is_clean (leaf_at x rest) = all_is_clean rest
-all_is_clean (node_at branch children rest) = rw (all_is_clean children, all_is_clean rest) refl
-
-pub placed_again : (row : PlacedRow) → placed_of (all_clean row) ≡ row
-placed_again ended = refl
-placed_again (leaf_at x rest) = ap (leaf_at x) (placed_again rest)
-placed_again (node_at branch children rest) = rw (placed_again children, placed_again rest) refl
-
 stored_levels : (media : ℕ → List ℕ) (levels : ℕ) (row : PlacedRow) → AreStored media levels row → levelled levels (plain row) ≡ true
 unfolding AreStored
 stored_levels media levels ended h = refl

@@ -26,13 +26,8 @@ use Rattle.index_commit.specs.Rooms.{Room}
 use Rattle.index_commit.specs.Standing.{AreOutside}
 use Rattle.index_commit.specs.Written.{AreLebsSettled, AreStanding, IsHeadAfter, IsIndexAt, IsIndexTaken, IsNewIn}
 use Rattle.index_commit.specs.declared.index_at.IndexHead.{IndexHead}
-use Rattle.index_commit.proofs.Standing.{clean_node}
 use Rattle.index_commit.proofs.Whole.{IsFrozenIndex, root_of}
-
-pub all_is_clean : (row : PlacedRow) → is_clean_row (all_clean row) ≡ true
-all_is_clean ended = refl
-all_is_clean (leaf_at x rest) = all_is_clean rest
-all_is_clean (node_at branch children rest) = rw (all_is_clean children, all_is_clean rest) refl
+use Rattle.node_cache.specs.CleanRows.{all_is_clean, clean_node}
 
 -- the frozen index stands where it stood while it was written
 frozen_written : {room : ℕ → Room} (old new : VolumeState) (lebs : List ℕ) (a b : PagedIndex) (i j : ℕ) → IsIndexTaken room a b i j → AreStanding old new lebs a b i j → AreOutside old.holds lebs (frozen_of a)

@@ -19,7 +19,7 @@ use Rattle.index_media.specs.KeyedRemoval.{keyed_collapsed, removed_by_keys, rep
 use Rattle.index_media.specs.KeyedRow.{KeyedRow, HaveFirstKeys, no_more, leaf_in, node_in, bare}
 use Rattle.index_media.specs.PlacedRow.{Stretch, branches_of}
 use Rattle.media_sys.specs.Index.{in_order, is_entry, may_follow}
-use Rattle.node_table.specs.Changing.{IsChange, changed}
+use Rattle.node_table.specs.Changing.{IsChange, changed_row}
 use Rattle.node_table.specs.Exchange.{tree_without}
 use Rattle.node_table.specs.Placing.{KeepsPlaces}
 use Rattle.node_table.specs.declared.change.Change.{Change}
@@ -461,7 +461,7 @@ unfolding without_range_by_keys
 without_range_apart from to row h = collapsed_apart None (pruned_by_keys from to row) (pruned_apart from to None row h)
 
 -- ---- any change
-pub change_apart : (f : ℕ) (change : Change) (row : KeyedRow) → 1 ≤ f → IsChange change → IsFreeChange change row → AreKeysBounded 0 None row → AreKeysApart None row → AreKeysApart None (changed f change row)
+pub change_apart : (f : ℕ) (change : Change) (row : KeyedRow) → 1 ≤ f → IsChange change → IsFreeChange change row → AreKeysBounded 0 None row → AreKeysApart None row → AreKeysApart None (changed_row f change row)
 change_apart f (Insert x) row one is free b h = with_leaf_apart f x row one free b h
 change_apart f (Remove x) row one is free b h = without_apart x row h
 change_apart f (Replace gone come) row one is free b h = replaced_apart gone come None row is.0 h

@@ -19,7 +19,7 @@ use Rattle.node_table.specs.Placing.{IsPlacedRow, KeepsPlaces, with_place, witho
 use Rattle.table_nodes.specs.declared.node.NodePlace.{NodePlace}
 use Rattle.table_nodes.specs.declared.node.Root.{Root}
 use Rattle.index_cache.specs.Commit.{IsNextNode, below_node, node_length, place_for, said_of}
-use Rattle.index_cache.specs.Paged.{dirty_of, frozen_of, tree_of, KeepsRoots}
+use Rattle.index_cache.specs.Paged.{dirty_of, frozen_of, keyed_tree_of, KeepsRoots}
 use Rattle.index_cache.specs.declared.paged.PagedIndex.{PagedIndex}
 use Rattle.index_commit.specs.Rooms.{IsInRoom, Room, room_in}
 use Rattle.index_commit.specs.Written.{AreFirstsTaken, IsIndexKept, IsIndexTaken, AreNodesLaid, Laying, Meets, with_leb_bytes}
@@ -63,7 +63,7 @@ kept_then both a b c h k = record {
   levels = λ number. k.levels number ∙ h.levels number;
   links = k.links ∙ h.links;
   frozen = both (frozen_of a) (frozen_of b) (frozen_of c) h.frozen k.frozen;
-  tree = both (tree_of a) (tree_of b) (tree_of c) h.tree k.tree;
+  tree = both (keyed_tree_of a) (keyed_tree_of b) (keyed_tree_of c) h.tree k.tree;
   trees = λ root. both (tree_at a.table.nodes.items root) (tree_at b.table.nodes.items root) (tree_at c.table.nodes.items root) (h.trees root) (k.trees root);
   roots = roots_then a b c h.roots k.roots;
 }
@@ -111,7 +111,7 @@ kept_none none a = record {
   levels = λ number. refl;
   links = refl;
   frozen = none (frozen_of a);
-  tree = none (tree_of a);
+  tree = none (keyed_tree_of a);
   trees = λ root. none (tree_at a.table.nodes.items root);
   roots = record { root = refl; frozen = refl; fanout = refl; sound = λ root s. s };
 }
@@ -187,7 +187,7 @@ pub record IsPlaced (lnum offs node : ℕ) (old new : PagedIndex) : Type 0 where
   pub next : IsNextNode old node
   pub levels : levelled (said_of old node).level (bare (below_node old node)) ≡ true
   pub frozen : IsPlacedRow (place_for lnum offs (said_of old node)) (below_node old node) (frozen_of old) (frozen_of new)
-  pub tree : IsPlacedRow (place_for lnum offs (said_of old node)) (below_node old node) (tree_of old) (tree_of new)
+  pub tree : IsPlacedRow (place_for lnum offs (said_of old node)) (below_node old node) (keyed_tree_of old) (keyed_tree_of new)
   pub trees : (root : Option Root) → IsPlacedRow (place_for lnum offs (said_of old node)) (below_node old node) (tree_at old.table.nodes.items root) (tree_at new.table.nodes.items root)
   pub nodes : new.table.nodes.items ≡ with_place node (place_for lnum offs (said_of old node)) old.table.nodes.items
   pub dirty : dirty_of new ≡ without_number node (dirty_of old)
@@ -235,7 +235,7 @@ placed_kept given lnum offs node old new p =
       levels = λ number. level_stays node number place old.table.nodes.items new.table.nodes.items p.nodes;
       links = links_stay node place old.table.nodes.items new.table.nodes.items p.nodes;
       frozen = given place below (frozen_of old) (frozen_of new) p.frozen;
-      tree = given place below (tree_of old) (tree_of new) p.tree;
+      tree = given place below (keyed_tree_of old) (keyed_tree_of new) p.tree;
       trees = λ root. given place below (tree_at old.table.nodes.items root) (tree_at new.table.nodes.items root) (p.trees root);
       roots = p.roots;
     }

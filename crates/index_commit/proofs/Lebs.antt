@@ -29,7 +29,7 @@ use Rattle.index_commit.specs.Answers.{IsIndexNotFailed}
 use Rattle.index_commit.specs.declared.index_fault.IndexFault.{IndexFault}
 use Rattle.index_commit.specs.Lebs.{AreGivable, IsGiven}
 use Rattle.index_commit.specs.Standing.{IsOutside}
-use Rattle.index_commit.specs.Written.{AreStanding, AreFirstsTaken, AreWritten, IsHeadAfter, IsHeadIn, AreNodesLaid, IsLebPut, IsNewIn, IsPut, Demand, Meets, IsSettledOutside, KeepsOtherIndexes, WorksInLebs, with_leb_bytes}
+use Rattle.index_commit.specs.Written.{AreStanding, AreFirstsTaken, AreWritten, IsHeadAfter, IsHeadIn, AreNodesLaid, IsLebPut, IsNewIn, IsNodePut, Demand, Meets, IsSettledOutside, KeepsOtherIndexes, WorksInLebs, with_leb_bytes}
 use Rattle.index_commit.specs.declared.index_at.IndexHead.{IndexHead}
 use Rattle.index_commit.proofs.Laid.{AreFewer, taken_fewer}
 use Rattle.index_commit.proofs.Standing.{are_standing, clean_more}
@@ -206,7 +206,7 @@ meets_less lebs asked s n g h = (λ given. h.0 (given_front lebs asked.outside s
 
 -- a node that the first of several LEBs has
 put_first : (lnum : ℕ) (lebs idle more : List ℕ) (i j k : ℕ) (s : Stretch) (n g : ℕ) → j ≤ k → (IsGiven lebs lnum → ⊥) → ((m : ℕ) → IsGiven more m → IsGiven lebs m)
-    → IsPut (lnum ∷ []) idle i j s n g → (IsGiven lebs s.lnum → ⊥) × IsPut (lnum ∷ lebs) (idle ++ more) i k s n g
+    → IsNodePut (lnum ∷ []) idle i j s n g → (IsGiven lebs s.lnum → ⊥) × IsNodePut (lnum ∷ lebs) (idle ++ more) i k s n g
 put_first lnum lebs idle more i j k s n g later apart among new =
     let e : s.lnum ≡ lnum = elim new.given [ inl e ↦ e | inr none ↦ absurd none ] in
     let G : ℕ → Type 0 = λ m. IsGiven lebs m in
@@ -223,7 +223,7 @@ put_first lnum lebs idle more i j k s n g later apart among new =
     )
 
 put_later : (lnum : ℕ) (lebs idle more : List ℕ) (i j k : ℕ) (s : Stretch) (n g : ℕ) → i ≤ j → (IsGiven lebs lnum → ⊥) → ((m : ℕ) → IsGiven idle m → IsGiven (lnum ∷ []) m)
-    → IsPut lebs more j k s n g → IsPut (lnum ∷ lebs) (idle ++ more) i k s n g
+    → IsNodePut lebs more j k s n g → IsNodePut (lnum ∷ lebs) (idle ++ more) i k s n g
 put_later lnum lebs idle more i j k s n g sooner apart among new =
     let above = new.above in
     let G : ℕ → Type 0 = λ m. IsGiven lebs m in

@@ -9,7 +9,7 @@ use Rattle.index_media.specs.Stored.{AreStored}
 use Rattle.media_sys.specs.Index.{in_order, may_follow}
 use Rattle.table_nodes.specs.BeyondLaws.{dirty_row}
 use Rattle.node_table.specs.Dirty.{dirty_among, dirty_behind, dirty_below, dirty_from, dirty_node}
-use Rattle.table_nodes.specs.NodeView.{NodeView, children_in, node_before, row_of, tree_at, view_of, views, views_behind}
+use Rattle.table_nodes.specs.NodeView.{NodeView, children_in, node_before, row_of, tree_at, node_view_of, node_views, views_behind}
 use Rattle.node_table.specs.Placing.{KeepsPlaces}
 use Rattle.table_nodes.specs.declared.link.Link.{Link}
 use Rattle.table_nodes.specs.declared.link.Link.TheVariants.{ToLeaf, ToNode}
@@ -23,8 +23,8 @@ use Rattle.index_commit.specs.Lebs.{IsGiven}
 use Rattle.index_commit.specs.Ordered.{AreKeysInOrder, IsNotEqualKeys}
 use Rattle.index_commit.specs.declared.index_fault.IndexFault.{IndexFault}
 use Rattle.index_commit.specs.declared.index_fault.IndexFault.TheVariants.{Memory, Full, EqualKeys, Volume}
-use Rattle.index_commit.proofs.Changes.{placed_again}
 use Rattle.index_commit.proofs.Lebs.{given_of}
+use Rattle.node_cache.specs.CleanRows.{placed_again}
 
 -- ---- what holds of each node of a row
 -- the keys in a node, if it is there, and in those below it are in order
@@ -84,28 +84,28 @@ among_below seen known (ToNode key k ∷ links) number all h = elim (given_of (u
 
 own_below : (seen : List NodeView) (known : List (List ℕ)) (node : TableNode) (place : Option NodePlace) (number : ℕ) → node.place ≡ place → length known ≡ length seen → AreBelow seen known
     → IsGiven (dirty_node place (length known) (dirty_among known node.links.items)) number
-    → (number < length seen + 1) × (IsInOrder (Some (view_of seen node)) → IsInOrder (slice_get (seen ++ view_of seen node ∷ []) number))
+    → (number < length seen + 1) × (IsInOrder (Some (node_view_of seen node)) → IsInOrder (slice_get (seen ++ node_view_of seen node ∷ []) number))
 own_below seen known node (Some place) number at same all h = absurd h
 own_below seen known node None number at same all h = elim (given_of (dirty_among known node.links.items) (length known ∷ []) number h) [
   | inl below ↦
       let one = among_below seen known node.links.items number all below in
       let less = one.0 in (
         omega (arith, less),
-        (λ order. subst IsInOrder (sym (get_front seen (view_of seen node) number less)) (one.1 (subst AreKeysInOrder (dirty_row seen node at) order.1))),
+        (λ order. subst IsInOrder (sym (get_front seen (node_view_of seen node) number less)) (one.1 (subst AreKeysInOrder (dirty_row seen node at) order.1))),
       )
   | inr itself ↦ elim itself [
     | inl e ↦ (
       omega (arith, e, same),
-      (λ order. subst IsInOrder (sym (get_end seen (view_of seen node) number (omega (arith, e, same)))) order),
+      (λ order. subst IsInOrder (sym (get_end seen (node_view_of seen node) number (omega (arith, e, same)))) order),
     )
     | inr none ↦ absurd none
   ]
 ]
 
 more_below : (seen : List NodeView) (known : List (List ℕ)) (node : TableNode) → length known ≡ length seen → AreBelow seen known
-    → AreBelow (seen ++ view_of seen node ∷ []) (known ++ dirty_node node.place (length known) (dirty_among known node.links.items) ∷ [])
+    → AreBelow (seen ++ node_view_of seen node ∷ []) (known ++ dirty_node node.place (length known) (dirty_among known node.links.items) ∷ [])
 more_below seen known node same all i number h =
-    let v = view_of seen node in
+    let v = node_view_of seen node in
     let own = dirty_node node.place (length known) (dirty_among known node.links.items) in
     let long = length-append seen (v ∷ []) in
     elim (has_front known own i number h) [
@@ -128,7 +128,7 @@ more_below seen known node same all i number h =
 pub all_below : (seen : List NodeView) (known : List (List ℕ)) (nodes : List TableNode) → length known ≡ length seen → AreBelow seen known → AreBelow (views_behind seen nodes) (dirty_behind known nodes)
 all_below seen known [] same all = all
 all_below seen known (node ∷ nodes) same all =
-    let v = view_of seen node in
+    let v = node_view_of seen node in
     let own = dirty_node node.place (length known) (dirty_among known node.links.items) in
     let one = length-append seen (v ∷ []) in
     let other = length-append known (own ∷ []) in
@@ -147,12 +147,12 @@ children_order (Some v) h = h.0
 
 -- the first dirty node below a root
 next_order : (nodes : List TableNode) (root : Option Root) (number : ℕ) → AreKeysInOrder (tree_at nodes root) → slice_get (dirty_below nodes root) 0 ≡ Some number
-    → in_order None (branches_of (placed_of (children_in (slice_get (views nodes) number)))) ≡ true
+    → in_order None (branches_of (placed_of (children_in (slice_get (node_views nodes) number)))) ≡ true
 next_order nodes None number h first = absurd cc
 next_order nodes (Some root) number h first =
     let all = all_below [] [] nodes refl none_below in
     let given = first_given (dirty_from nodes root.number) number first in
-    children_order (slice_get (views nodes) number) ((all root.number number given).1 (node_order root.key (slice_get (views nodes) root.number) no_more h).0)
+    children_order (slice_get (node_views nodes) number) ((all root.number number given).1 (node_order root.key (slice_get (node_views nodes) root.number) no_more h).0)
 
 -- ---- places that are given leave keys
 branch_key : (key : Key) (o : Option Stretch) → (node_branch key o).key ≡ key

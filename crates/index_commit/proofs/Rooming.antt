@@ -14,7 +14,7 @@ use Rattle.index_media.specs.KeyedRow.{KeyedRow, no_more, node_in, bare}
 use Rattle.index_media.specs.PlacedRow.{Stretch, branches_of}
 use Rattle.media_sys.specs.declared.branch.Branch.{Branch}
 use Rattle.node_table.specs.Dirty.{dirty_below}
-use Rattle.table_nodes.specs.NodeView.{tree_at, views}
+use Rattle.table_nodes.specs.NodeView.{tree_at, node_views}
 use Rattle.table_nodes.specs.declared.node.Root.{Root}
 use Rattle.index_cache.specs.Commit.{below_node, node_length, said_of}
 use Rattle.index_cache.specs.Paged.{dirty_of, fanout_of, frozen_of}
@@ -145,7 +145,7 @@ leads_to : (room : Room) (len : ℕ) (root : Root) (b : PagedIndex) → place_by
     → LeadsToRoom room (first_branch (tree_at b.table.nodes.items (Some root)))
 leads_to room len root b place =
     let P : Option Branch → Type 0 = λ o. LeadsToRoom room o in
-    let row = view_node root.key (slice_get (views b.table.nodes.items) root.number) in
+    let row = view_node root.key (slice_get (node_views b.table.nodes.items) root.number) in
     let O : Option Stretch → KeyedRow = λ o. node_in root.key o (below_node b root.number) no_more in
     subst P (sym (ap first_branch (row ∙ ap O place))) (refl, refl)
 

@@ -12,9 +12,9 @@ use Rattle.index_media.specs.Clean.{is_clean_row, placed_of}
 use Rattle.index_media.specs.KeyedRow.{KeyedRow, no_more, leaf_in, node_in}
 use Rattle.index_media.specs.PlacedRow.{Stretch, branches_of}
 use Rattle.media_sys.specs.Index.{Index}
-use Rattle.table_nodes.specs.NodeView.{NodeView, children_in, node_before, stretch_at, tree_at, view_of, views, views_behind}
+use Rattle.table_nodes.specs.NodeView.{NodeView, children_in, node_before, stretch_at, tree_at, node_view_of, node_views, views_behind}
 use Rattle.node_table.specs.Placing.{KeepsPlaces, with_place, without_number}
-use Rattle.node_table.specs.Pruning.{place_in}
+use Rattle.node_table.specs.Pruning.{stretch_in}
 use Rattle.table_nodes.specs.declared.link.Link.{Link}
 use Rattle.table_nodes.specs.declared.node.NodePlace.{NodePlace}
 use Rattle.table_nodes.specs.declared.node.Root.{Root}
@@ -23,7 +23,7 @@ use Rattle.index_cache.specs.Commit.{below_node, level_in, node_length, said_of}
 use Rattle.index_cache.specs.declared.paged.PagedIndex.{PagedIndex}
 use Rattle.index_commit.specs.Rooms.{Room, AreDistinctNumbers, AreInRooms, IsInRoom, IsNotAmong, place_by_number}
 use Rattle.index_commit.specs.Written.{AreFirstsTaken, IsIndexKept, node_links}
-use Rattle.index_commit.proofs.Standing.{clean_node}
+use Rattle.node_cache.specs.CleanRows.{clean_node}
 
 -- ---- what is seen of the nodes of a table
 abbrev level_seen : NodeView → ℕ
@@ -41,13 +41,13 @@ place_kept node = stretch_at node.place
 levels_behind : (seen : List NodeView) (nodes : List TableNode) → map level_seen (views_behind seen nodes) ≡ map level_seen seen ++ map level_kept nodes
 levels_behind seen [] = sym (append-nil (map level_seen seen))
 levels_behind seen (node ∷ nodes) =
-    levels_behind (seen ++ view_of seen node ∷ []) nodes ∙ ap (λ (l : List ℕ). l ++ map level_kept nodes) (map-append level_seen seen (view_of seen node ∷ []))
+    levels_behind (seen ++ node_view_of seen node ∷ []) nodes ∙ ap (λ (l : List ℕ). l ++ map level_kept nodes) (map-append level_seen seen (node_view_of seen node ∷ []))
     ∙ append_assoc (map level_seen seen) (node.level ∷ []) (map level_kept nodes)
 
 places_behind : (seen : List NodeView) (nodes : List TableNode) → map place_seen (views_behind seen nodes) ≡ map place_seen seen ++ map place_kept nodes
 places_behind seen [] = sym (append-nil (map place_seen seen))
 places_behind seen (node ∷ nodes) =
-    places_behind (seen ++ view_of seen node ∷ []) nodes ∙ ap (λ (l : List (Option Stretch)). l ++ map place_kept nodes) (map-append place_seen seen (view_of seen node ∷ []))
+    places_behind (seen ++ node_view_of seen node ∷ []) nodes ∙ ap (λ (l : List (Option Stretch)). l ++ map place_kept nodes) (map-append place_seen seen (node_view_of seen node ∷ []))
     ∙ append_assoc (map place_seen seen) (stretch_at node.place ∷ []) (map place_kept nodes)
 
 level_at : (vs : List NodeView) (n : ℕ) → level_in (slice_get vs n) ≡ get_or (map level_seen vs) n 0
@@ -55,7 +55,7 @@ level_at [] n = refl
 level_at (v ∷ vs) zero = refl
 level_at (v ∷ vs) (suc n) = level_at vs n
 
-place_at : (vs : List NodeView) (n : ℕ) → place_in (slice_get vs n) ≡ get_or (map place_seen vs) n None
+place_at : (vs : List NodeView) (n : ℕ) → stretch_in (slice_get vs n) ≡ get_or (map place_seen vs) n None
 place_at [] n = refl
 place_at (v ∷ vs) zero = refl
 place_at (v ∷ vs) (suc n) = place_at vs n
@@ -86,22 +86,22 @@ other_with (suc n) zero p (node ∷ nodes) other = refl
 other_with (suc n) (suc k) p (node ∷ nodes) other = other_with n k p nodes (λ e. other (ap (λ (i : ℕ). suc i) e))
 
 -- a node that gets its place has it, and all keep their levels
-pub level_stays : (n number : ℕ) (p : NodePlace) (old new : List TableNode) → new ≡ with_place n p old → level_in (slice_get (views new) number) ≡ level_in (slice_get (views old) number)
+pub level_stays : (n number : ℕ) (p : NodePlace) (old new : List TableNode) → new ≡ with_place n p old → level_in (slice_get (node_views new) number) ≡ level_in (slice_get (node_views old) number)
 level_stays n number p old new e =
-    let same : map level_seen (views new) ≡ map level_seen (views old) = levels_behind [] new ∙ ap (map level_kept) e ∙ levels_with n p old ∙ sym (levels_behind [] old) in
-    level_at (views new) number ∙ ap (λ (l : List ℕ). get_or l number 0) same ∙ sym (level_at (views old) number)
+    let same : map level_seen (node_views new) ≡ map level_seen (node_views old) = levels_behind [] new ∙ ap (map level_kept) e ∙ levels_with n p old ∙ sym (levels_behind [] old) in
+    level_at (node_views new) number ∙ ap (λ (l : List ℕ). get_or l number 0) same ∙ sym (level_at (node_views old) number)
 
-pub place_given : (n : ℕ) (p : NodePlace) (old new : List TableNode) → n < length old → new ≡ with_place n p old → place_in (slice_get (views new) n) ≡ stretch_at (Some p)
+pub place_given : (n : ℕ) (p : NodePlace) (old new : List TableNode) → n < length old → new ≡ with_place n p old → stretch_in (slice_get (node_views new) n) ≡ stretch_at (Some p)
 place_given n p old new there e =
-    place_at (views new) n ∙ ap (λ (l : List (Option Stretch)). get_or l n None) (places_behind [] new ∙ ap (map place_kept) e) ∙ place_with n p old there
+    place_at (node_views new) n ∙ ap (λ (l : List (Option Stretch)). get_or l n None) (places_behind [] new ∙ ap (map place_kept) e) ∙ place_with n p old there
 
-pub other_places : (n k : ℕ) (p : NodePlace) (old new : List TableNode) → (k ≡ n → ⊥) → new ≡ with_place n p old → place_in (slice_get (views new) k) ≡ place_in (slice_get (views old) k)
+pub other_places : (n k : ℕ) (p : NodePlace) (old new : List TableNode) → (k ≡ n → ⊥) → new ≡ with_place n p old → stretch_in (slice_get (node_views new) k) ≡ stretch_in (slice_get (node_views old) k)
 other_places n k p old new other e =
-    place_at (views new) k ∙ ap (λ (l : List (Option Stretch)). get_or l k None) (places_behind [] new ∙ ap (map place_kept) e) ∙ other_with n k p old other
-    ∙ ap (λ (l : List (Option Stretch)). get_or l k None) (sym (places_behind [] old)) ∙ sym (place_at (views old) k)
+    place_at (node_views new) k ∙ ap (λ (l : List (Option Stretch)). get_or l k None) (places_behind [] new ∙ ap (map place_kept) e) ∙ other_with n k p old other
+    ∙ ap (λ (l : List (Option Stretch)). get_or l k None) (sym (places_behind [] old)) ∙ sym (place_at (node_views old) k)
 
 -- ---- a node by its number
-pub view_node : (key : Key) (v : Option NodeView) → node_before key v no_more ≡ node_in key (place_in v) (children_in v) no_more
+pub view_node : (key : Key) (v : Option NodeView) → node_before key v no_more ≡ node_in key (stretch_in v) (children_in v) no_more
 view_node key None = refl
 view_node key (Some v) = refl
 
@@ -120,14 +120,14 @@ pub node_kept : (a b : PagedIndex) (number : ℕ) → IsIndexKept a b
     → ((place_by_number b number ≡ place_by_number a number) ⊎ (place_by_number a number ≡ None)) × KeepsPlaces (below_node a number) (below_node b number)
 node_kept a b number kept =
     let key : Key = Ino 0 in
-    let va = slice_get (views a.table.nodes.items) number in
-    let vb = slice_get (views b.table.nodes.items) number in
+    let va = slice_get (node_views a.table.nodes.items) number in
+    let vb = slice_get (node_views b.table.nodes.items) number in
     let root : Root = record { key = key; number = number } in
     let A : KeyedRow → Type 0 = λ r. KeepsPlaces r (tree_at b.table.nodes.items (Some root)) in
-    let B : KeyedRow → Type 0 = λ r. KeepsPlaces (node_in key (place_in va) (children_in va) no_more) r in
-    let k : KeepsPlaces (node_in key (place_in va) (children_in va) no_more) (node_in key (place_in vb) (children_in vb) no_more) =
+    let B : KeyedRow → Type 0 = λ r. KeepsPlaces (node_in key (stretch_in va) (children_in va) no_more) r in
+    let k : KeepsPlaces (node_in key (stretch_in va) (children_in va) no_more) (node_in key (stretch_in vb) (children_in vb) no_more) =
     subst B (view_node key vb) (subst A (view_node key va) (kept.trees (Some root))) in
-    let place : place_in vb ≡ k.0 = ap top_place k.3 in
+    let place : stretch_in vb ≡ k.0 = ap top_place k.3 in
     let below : children_in vb ≡ k.1 = ap top_children k.3 in
     let C : KeyedRow → Type 0 = λ r. KeepsPlaces (children_in va) r in
     (elim k.4 [ inl e ↦ inl (place ∙ e) | inr e ↦ inr e ], subst C (sym below) k.5)

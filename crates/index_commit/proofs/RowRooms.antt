@@ -14,9 +14,9 @@ use Rattle.index_media.specs.KeyedRow.{KeyedRow, no_more, leaf_in, node_in, bare
 use Rattle.index_media.specs.PlacedRow.{Stretch}
 use Rattle.table_nodes.specs.Beyond.{are_loaded, is_loaded}
 use Rattle.table_nodes.specs.BeyondLaws.{loaded_row}
-use Rattle.node_table.specs.Clean.{are_clean_below, is_clean_below}
+use Rattle.table_nodes.specs.Clean.{are_clean_below, is_clean_below}
 use Rattle.node_table.specs.Dirty.{dirty_among, dirty_behind, dirty_below, dirty_from, dirty_lists, dirty_node}
-use Rattle.table_nodes.specs.NodeView.{NodeView, node_before, row_of, stretch_at, tree_at, view_of, views, views_behind}
+use Rattle.table_nodes.specs.NodeView.{NodeView, node_before, row_of, stretch_at, tree_at, node_view_of, node_views, views_behind}
 use Rattle.node_table.specs.Placing.{without_number}
 use Rattle.table_nodes.specs.Sound.{AreSoundViews, IsSoundView}
 use Rattle.table_nodes.specs.declared.link.Link.{Link}
@@ -29,7 +29,7 @@ use Rattle.index_cache.specs.declared.paged.PagedIndex.{PagedIndex}
 use Rattle.index_commit.specs.Rooms.{Room, AreDistinctNumbers, IsNotAmong, all_rooms, place_by_number, place_room, taken_room, rooms_of}
 use Rattle.index_commit.specs.Written.{AreFirstsTaken, IsIndexKept, IsIndexTaken, node_links}
 use Rattle.index_commit.proofs.Rooms.{node_kept}
-use Rattle.index_commit.proofs.Standing.{and_left, and_right, clean_node}
+use Rattle.node_cache.specs.CleanRows.{and_left, and_right, clean_node}
 
 -- ---- rooms that are given to dirty nodes
 -- each node without a room takes the next one of a list
@@ -165,7 +165,7 @@ list_front (list ∷ lists) own (suc n) less = list_front lists own n (omega (ar
 -- what was seen of a node stays
 pub seen_stays : (seen : List NodeView) (nodes : List TableNode) (n : ℕ) (v : NodeView) → slice_get seen n ≡ Some v → slice_get (views_behind seen nodes) n ≡ Some v
 seen_stays seen [] n v is = is
-seen_stays seen (node ∷ nodes) n v is = seen_stays (seen ++ view_of seen node ∷ []) nodes n v (get_front seen (view_of seen node) v n is)
+seen_stays seen (node ∷ nodes) n v is = seen_stays (seen ++ node_view_of seen node ∷ []) nodes n v (get_front seen (node_view_of seen node) v n is)
 
 more_filled : (at : ℕ → Option Room) (seen later : List NodeView) (known : List (List ℕ)) (v w : NodeView) (own : List ℕ) → length later ≡ length seen → length known ≡ length seen → AreFilled at seen later known
     → IsFilled at own (node_rooms v) (node_rooms w) → AreFilled at (seen ++ v ∷ []) (later ++ w ∷ []) (known ++ own ∷ [])
@@ -209,8 +209,8 @@ all_filled at f seen later known [] [] same count links old new tables all = all
 all_filled at f seen later known [] (y ∷ news) same count links old new tables all = absurd cc
 all_filled at f seen later known (x ∷ nodes) [] same count links old new tables all = absurd cc
 all_filled at f seen later known (x ∷ nodes) (y ∷ news) same count links old new tables all =
-    let v = view_of seen x in
-    let w = view_of later y in
+    let v = node_view_of seen x in
+    let w = node_view_of later y in
     let own = dirty_node x.place (length known) (dirty_among known x.links.items) in
     let here = seen_stays (seen ++ v ∷ []) nodes (length seen) v (get_end seen v) in
     let there : slice_get (views_behind (later ++ w ∷ []) news) (length seen) ≡ Some w =
@@ -253,13 +253,13 @@ get_clean (w ∷ seen) (suc n) v all is = get_clean seen n v (and_right (is_clea
 abbrev room_now : PagedIndex → ℕ → Option Room
 room_now index number = option_map place_room (place_by_number index number)
 
-tables_are : (a b : PagedIndex) → IsIndexKept a b → AreTables (room_now b) (fanout_of a) (views a.table.nodes.items) (views b.table.nodes.items)
+tables_are : (a b : PagedIndex) → IsIndexKept a b → AreTables (room_now b) (fanout_of a) (node_views a.table.nodes.items) (node_views b.table.nodes.items)
 tables_are a b kept = record {
   sound = λ i v is.
-      let all : AreSoundViews (fanout_of a) (views a.table.nodes.items) = a.table.sound in
-      let one = get_all (IsSoundView (fanout_of a)) (views a.table.nodes.items) i v all is in
+      let all : AreSoundViews (fanout_of a) (node_views a.table.nodes.items) = a.table.sound in
+      let one = get_all (IsSoundView (fanout_of a)) (node_views a.table.nodes.items) i v all is in
       (fit_node (fanout_of a) (bare v.children) done one.0).children;
-  clean = λ i v is. get_clean (views a.table.nodes.items) i v a.table.clean is;
+  clean = λ i v is. get_clean (node_views a.table.nodes.items) i v a.table.clean is;
   places = λ i v w is now.
       let here : place_by_number a i ≡ v.place = ap place_seen is in
       let there : place_by_number b i ≡ w.place = ap place_seen now in (
@@ -282,8 +282,8 @@ root_filled a b root kept fit =
     let all = all_filled (room_now b) (fanout_of a) [] [] [] a.table.nodes.items b.table.nodes.items refl refl kept.links a.table.loaded b.table.loaded (tables_are a b kept) (none_filled (room_now b)) in
     let numbers = dirty_from a.table.nodes.items root.number in
     let P : List ℕ → Type 0 = λ l. IsFilled (room_now b) l (rooms_of (tree_at a.table.nodes.items (Some root))) (rooms_of (tree_at b.table.nodes.items (Some root))) in
-    subst P (append-nil numbers) (node_filled (room_now b) (fanout_of a) (views a.table.nodes.items) (views b.table.nodes.items) (dirty_lists a.table.nodes.items) root.key root.number
-    (slice_get (views a.table.nodes.items) root.number) [] no_more no_more refl all fit (refl, refl))
+    subst P (append-nil numbers) (node_filled (room_now b) (fanout_of a) (node_views a.table.nodes.items) (node_views b.table.nodes.items) (dirty_lists a.table.nodes.items) root.key root.number
+    (slice_get (node_views a.table.nodes.items) root.number) [] no_more no_more refl all fit (refl, refl))
 
 -- ---- all that were dirty have the rooms, one after another
 without_absent : (x : ℕ) (numbers : List ℕ) → IsNotAmong numbers x → without_number x numbers ≡ numbers

@@ -14,23 +14,9 @@ use Rattle.media_sys.specs.declared.branch.Branch.{Branch}
 use Rattle.table_nodes.specs.NodeView.{stretch_at}
 use Rattle.node_table.specs.Placing.{IsPlacedRow}
 use Rattle.table_nodes.specs.declared.node.NodePlace.{NodePlace}
+use Rattle.node_cache.specs.CleanRows.{clean_node}
 
 -- ---- clean rows
-pub and_left : (a b : Bool) → (a && b) ≡ true → a ≡ true
-and_left true b h = refl
-and_left false b h = absurd cc
-
-pub and_right : (a b : Bool) → (a && b) ≡ true → b ≡ true
-and_right true b h = h
-and_right false b h = absurd cc
-
--- a clean node of a row, what is below it, and what is behind it
-pub clean_node : (key : Key) (place : Option Stretch) (children rest : KeyedRow) → is_clean_row (node_in key place children rest) ≡ true
-    → (is_some place ≡ true) × (is_clean_row children ≡ true) × (is_clean_row rest ≡ true)
-clean_node key place children rest h =
-    let more = and_right (is_some place) (is_clean_row children && is_clean_row rest) h in
-    (and_left (is_some place) (is_clean_row children && is_clean_row rest) h, and_left (is_clean_row children) (is_clean_row rest) more, and_right (is_clean_row children) (is_clean_row rest) more)
-
 same_place : (p : NodePlace) (b children : KeyedRow) (old now : Option Stretch) → is_some old ≡ true → (now ≡ old) ⊎ ((old ≡ None) × (now ≡ stretch_at (Some p)) × (children ≡ b)) → now ≡ old
 same_place p b children None now s h = absurd cc
 same_place p b children (Some x) now s (inl e) = e

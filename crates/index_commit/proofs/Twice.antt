@@ -15,7 +15,7 @@ use Rattle.index_media.specs.InsertionSound.{fit_node}
 use Rattle.index_media.specs.KeyedRow.{KeyedRow, no_more, bare}
 use Rattle.table_nodes.specs.BeyondLaws.{dirty_row}
 use Rattle.node_table.specs.Dirty.{dirty_among, dirty_behind, dirty_below, dirty_from, dirty_lists, dirty_node}
-use Rattle.table_nodes.specs.NodeView.{NodeView, node_before, row_of, tree_at, view_of, views, views_behind}
+use Rattle.table_nodes.specs.NodeView.{NodeView, node_before, row_of, tree_at, node_view_of, node_views, views_behind}
 use Rattle.table_nodes.specs.Sound.{AreSoundViews, IsSoundView}
 use Rattle.table_nodes.specs.declared.link.Link.{Link}
 use Rattle.table_nodes.specs.declared.link.Link.TheVariants.{ToLeaf, ToNode}
@@ -237,7 +237,7 @@ all_fewer : (t : ℕ) (x : Leaf) (f : ℕ) (seen : List NodeView) (known : List 
     → AreFewer t x seen known → AreFewer t x (views_behind seen nodes) (dirty_behind known nodes)
 all_fewer t x f seen known [] count ends sound all = all
 all_fewer t x f seen known (y ∷ nodes) count ends sound all =
-    let v = view_of seen y in
+    let v = node_view_of seen y in
     let own = dirty_node y.place (length known) (dirty_among known y.links.items) in
     let here = sound (length seen) v (seen_stays (seen ++ v ∷ []) nodes (length seen) v (get_end seen v)) in
     let lower = lower_among known y.links.items ends in
@@ -268,7 +268,7 @@ given_at (x ∷ numbers) (suc n) t h = inr (given_at numbers n t h)
 root_once : (a : PagedIndex) (root : Root) (t : ℕ) → fits (fanout_of a) (bare (tree_at a.table.nodes.items (Some root))) ≡ true → AreDistinct (contents (bare (tree_at a.table.nodes.items (Some root))))
     → IsGiven (dirty_from a.table.nodes.items root.number) t → often t (dirty_from a.table.nodes.items root.number) ≤ 1
 root_once a root t fit distinct given =
-    let seen = views a.table.nodes.items in
+    let seen = node_views a.table.nodes.items in
     let f = fanout_of a in
     let lists = dirty_lists a.table.nodes.items in
     let there = (all_below [] [] a.table.nodes.items refl none_below root.number t given).0 in

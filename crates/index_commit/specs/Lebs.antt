@@ -7,8 +7,8 @@ IsGiven [] k = ⊥
 IsGiven (lnum ∷ lebs) k = (k ≡ lnum) ⊎ IsGiven lebs k
 
 -- no LEB is one of both
-abbrev pub AreApart : List ℕ → List ℕ → Type 0
-AreApart lebs others = (k : ℕ) → IsGiven lebs k → IsGiven others k → ⊥
+abbrev pub AreLebsApart : List ℕ → List ℕ → Type 0
+AreLebsApart lebs others = (k : ℕ) → IsGiven lebs k → IsGiven others k → ⊥
 
 -- LEBs of a volume of so many, no two of them the same
 abbrev pub AreGivable : ℕ → List ℕ → Type 0

@@ -6,8 +6,8 @@ use Rattle.index_media.specs.Clean.{is_clean_row}
 use Rattle.index_media.specs.KeyedRow.{KeyedRow, no_more, leaf_in, node_in}
 use Rattle.index_media.specs.PlacedRow.{Stretch}
 use Rattle.media_sys.specs.declared.branch.Branch.{Branch}
-use Rattle.table_nodes.specs.NodeView.{views}
-use Rattle.node_table.specs.Pruning.{place_in}
+use Rattle.table_nodes.specs.NodeView.{node_views}
+use Rattle.node_table.specs.Pruning.{stretch_in}
 use Rattle.index_cache.specs.Commit.{below_node, node_length, said_of}
 use Rattle.index_cache.specs.Paged.{dirty_of, frozen_of}
 use Rattle.index_cache.specs.declared.paged.PagedIndex.{PagedIndex}
@@ -45,7 +45,7 @@ all_rooms geo lebs n (Some room ∷ rooms) = Some room ∷ all_rooms geo lebs n 
 
 -- where a node of the table stands, by its number; a dirty one stands nowhere
 abbrev pub place_by_number : PagedIndex → ℕ → Option Stretch
-place_by_number index number = place_in (slice_get (views index.table.nodes.items) number)
+place_by_number index number = stretch_in (slice_get (node_views index.table.nodes.items) number)
 
 -- a node has its place in this room, and all nodes below it are clean
 pub record IsInRoom (index : PagedIndex) (room : Room) (number : ℕ) : Type 0 where

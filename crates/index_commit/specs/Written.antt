@@ -16,9 +16,9 @@ use Rattle.table_nodes.specs.declared.node.TableNode.{TableNode}
 use Rattle.ubi_volume.specs.Frame.{Elsewhere, IsSameLeb, Works}
 use Rattle.ubi_volume.specs.Volume.{VolumeState, Keeps, Leaves, Only, filled}
 use Rattle.index_cache.specs.Commit.{said_of}
-use Rattle.index_cache.specs.Paged.{dirty_of, frozen_of, tree_of, KeepsRoots}
+use Rattle.index_cache.specs.Paged.{dirty_of, frozen_of, keyed_tree_of, KeepsRoots}
 use Rattle.index_cache.specs.declared.paged.PagedIndex.{PagedIndex}
-use Rattle.index_commit.specs.Lebs.{AreApart, IsGiven}
+use Rattle.index_commit.specs.Lebs.{AreLebsApart, IsGiven}
 use Rattle.index_commit.specs.LebTexts.{firsts, in_rooms, said_by}
 use Rattle.index_commit.specs.Rooms.{Room, room_in, place_by_number, AreDistinctNumbers, AreInRooms, IsNotAmong, whole_units}
 use Rattle.index_commit.specs.Standing.{AreOutside}
@@ -35,7 +35,7 @@ pub record IsIndexKept (old new : PagedIndex) : Type 0 where
   pub levels : (number : ℕ) → (said_of new number).level ≡ (said_of old number).level
   pub links : map node_links new.table.nodes.items ≡ map node_links old.table.nodes.items
   pub frozen : KeepsPlaces (frozen_of old) (frozen_of new)
-  pub tree : KeepsPlaces (tree_of old) (tree_of new)
+  pub tree : KeepsPlaces (keyed_tree_of old) (keyed_tree_of new)
   pub trees : (root : Option Root) → KeepsPlaces (tree_at old.table.nodes.items root) (tree_at new.table.nodes.items root)
   pub roots : KeepsRoots old new
 
@@ -58,7 +58,7 @@ pub record IsIndexTaken (room : ℕ → Room) (old new : PagedIndex) (before aft
   pub most : after + length (dirty_of new) ≤ before + length (dirty_of old)
 
 -- nothing was written, and no node was given a place
-pub record IsUntouched (old new : VolumeState) (before after : PagedIndex) (first last : ℕ) : Type 0 where
+pub record IsIndexUntouched (old new : VolumeState) (before after : PagedIndex) (first last : ℕ) : Type 0 where
   pub volume : Keeps old new
   pub index : after ≡ before
   pub number : last ≡ first
@@ -116,14 +116,14 @@ IsNewIn state lebs before after place number group = IsGiven lebs place.lnum →
 -- those that were given places too, so they are in given LEBs. Each that is in a given LEB was
 -- written since. A given LEB is as it was, or a cut leaves of it what it holds
 pub record AreStanding (old new : VolumeState) (lebs : List ℕ) (before after : PagedIndex) (first last : ℕ) : Type 0 where
-  pub nodes : (others : List ℕ) (root : Option Root) → AreApart lebs others → AreOutside old.holds (lebs ++ others) (tree_at before.table.nodes.items root)
+  pub nodes : (others : List ℕ) (root : Option Root) → AreLebsApart lebs others → AreOutside old.holds (lebs ++ others) (tree_at before.table.nodes.items root)
       → AreOutside new.holds others (tree_at after.table.nodes.items root)
   pub written : (root : Option Root) → AreOutside old.holds lebs (tree_at before.table.nodes.items root)
       → AreStandingAs new.holds (IsNewIn new lebs first last) (tree_at after.table.nodes.items root)
   pub settled : (k : ℕ) → IsGiven lebs k → IsSameLeb old new k ⊎ Only (new.holds k) (new.left_now k)
 
 -- a node with this place, number and group was written into a given LEB that isn't idle
-pub record IsPut (lebs idle : List ℕ) (before after : ℕ) (place : Stretch) (number group : ℕ) : Type 0 where
+pub record IsNodePut (lebs idle : List ℕ) (before after : ℕ) (place : Stretch) (number group : ℕ) : Type 0 where
   pub given : IsGiven lebs place.lnum
   pub busy : IsGiven idle place.lnum → ⊥
   pub above : before < number
@@ -136,7 +136,7 @@ pub record AreWritten (old new : VolumeState) (lebs : List ℕ) (before after : 
   pub idle : List ℕ
   pub among : (k : ℕ) → IsGiven idle k → IsGiven lebs k
   pub nodes : (asked : Demand) (root : Option Root)
-      → ((place : Stretch) (number group : ℕ) → IsPut lebs idle first last place number group → Meets asked place number group)
+      → ((place : Stretch) (number group : ℕ) → IsNodePut lebs idle first last place number group → Meets asked place number group)
       → AreStandingAs old.holds (λ place number group. (IsGiven lebs place.lnum → ⊥) × Meets asked place number group) (tree_at before.table.nodes.items root)
       → AreStandingAs new.holds (Meets asked) (tree_at after.table.nodes.items root)
   pub settled : (k : ℕ) → IsGiven lebs k → (IsGiven idle k × IsSameLeb old new k) ⊎ Only (new.holds k) (new.left_now k)

@@ -12,8 +12,8 @@ ghost use Rattle.node_table.specs.Placing.{KeepsPlaces};
 ghost use Rattle.ubi_volume.specs.Geometry.{IsGeometryOf};
 ghost use Rattle.ubi_volume.specs.Volume.{SameShape};
 ghost use Rattle.node_cache.specs.Loaded.{IsIndexOn};
-ghost use Rattle.index_cache.specs.Paged.{fanout_of, frozen_of, leaves_of, tree_of};
-ghost use Rattle.index_commit.specs.Lebs.{AreApart, AreGivable, IsGiven};
+ghost use Rattle.index_cache.specs.Paged.{fanout_of, frozen_of, leaves_of, keyed_tree_of};
+ghost use Rattle.index_commit.specs.Lebs.{AreLebsApart, AreGivable, IsGiven};
 ghost use Rattle.index_commit.specs.Standing.{AreOutside};
 ghost use Rattle.index_commit.specs.Written.{AreLebsSettled, IsRootOf, KeepsOtherIndexes};
 
@@ -80,13 +80,13 @@ fn write_seen<V: Volume>(
     requires geometry { IsGeometryOf (raw_of geometry.now) (V.state volume.old) }
     requires fanout { fanout_of index.old ≡ geometry.now.fanout }
     requires lebs { AreGivable (V.state volume.old).leb_cnt lebs.now }
-    requires outside { AreOutside (V.state volume.old).holds lebs.now (tree_of index.old) }
+    requires outside { AreOutside (V.state volume.old).holds lebs.now (keyed_tree_of index.old) }
     requires number { sqnum.old < 2 ^ 63 }
     ensures root { IfOk result (λ at. IsRootOf (V.state volume.new).holds geometry.now.fanout (frozen_of index.new) at.root) }
-    ensures frozen { OnOk result (KeepsPlaces (tree_of index.old) (frozen_of index.new)) }
-    ensures tree { OnOk result (KeepsPlaces (tree_of index.old) (tree_of index.new)) }
-    ensures outside { OnOk result ((others : List ℕ) → AreApart lebs.now others → AreOutside (V.state volume.old).holds (lebs.now ++ others) (tree_of index.old)
-        → AreOutside (V.state volume.new).holds others (tree_of index.new)) }
+    ensures frozen { OnOk result (KeepsPlaces (keyed_tree_of index.old) (frozen_of index.new)) }
+    ensures tree { OnOk result (KeepsPlaces (keyed_tree_of index.old) (keyed_tree_of index.new)) }
+    ensures outside { OnOk result ((others : List ℕ) → AreLebsApart lebs.now others → AreOutside (V.state volume.old).holds (lebs.now ++ others) (keyed_tree_of index.old)
+        → AreOutside (V.state volume.new).holds others (keyed_tree_of index.new)) }
     ensures fanout { fanout_of index.new ≡ fanout_of index.old }
     ensures shape { SameShape (V.state volume.old) (V.state volume.new) }
     ensures number { sqnum.new ≤ sqnum.old + 2 ^ 62 }
@@ -112,9 +112,9 @@ pub fn commit_twice<V: Volume>(
 ) -> Result<IndexAt, IndexFault>
     requires geometry { IsGeometryOf (raw_of geometry.now) (V.state volume.old) }
     requires fanout { fanout_of index.old ≡ geometry.now.fanout }
-    requires fits { fits (fanout_of index.old) (bare (tree_of index.old)) ≡ true }
-    requires lebs { AreGivable (V.state volume.old).leb_cnt lebs.now × AreGivable (V.state volume.old).leb_cnt others.now × AreApart lebs.now others.now }
-    requires outside { AreOutside (V.state volume.old).holds (lebs.now ++ others.now) (tree_of index.old) }
+    requires fits { fits (fanout_of index.old) (bare (keyed_tree_of index.old)) ≡ true }
+    requires lebs { AreGivable (V.state volume.old).leb_cnt lebs.now × AreGivable (V.state volume.old).leb_cnt others.now × AreLebsApart lebs.now others.now }
+    requires outside { AreOutside (V.state volume.old).holds (lebs.now ++ others.now) (keyed_tree_of index.old) }
     requires key { IsKey leaf.key }
     requires number { sqnum.old < 2 ^ 62 }
     ensures leaves { OnOk result (contents (bare (frozen_of index.new)) ≡ placed leaf (leaves_of index.old)) }

@@ -13,7 +13,7 @@ ghost use Rattle.index_media.specs.KeyedRow.{HaveFirstKeys, KeyedRow, all_clean,
 ghost use Rattle.index_media.specs.PlacedRow.{PlacedRow, lebs_of};
 ghost use Rattle.index_media.specs.Stored.{IsStoredIndex};
 ghost use Rattle.media_sys.specs.declared.branch.Branch.{Branch as ABranch};
-ghost use Rattle.node_table.specs.Changing.{IsChange, changed};
+ghost use Rattle.node_table.specs.Changing.{IsChange, changed_row};
 ghost use Rattle.node_table.specs.Placing.{KeepsPlaces};
 ghost use Rattle.index_media.specs.InsertionSound.{AreKeys};
 ghost use Rattle.index_media.specs.KeyedKeys.{AreKeysBounded};
@@ -32,7 +32,7 @@ pub fn changes_keep_what_stands()
     ensures loaded { (contents : ℕ → List ℕ) (lebs : List ℕ) (fanout : ℕ) (root : ABranch) (placed : PlacedRow) → IsStoredIndex contents fanout root placed
         → All (λ k. IsGiven lebs k → ⊥) (lebs_of placed) → AreOutside contents lebs (all_clean placed) }
     ensures changed { (fanout : ℕ) (change : AChange) (contents : ℕ → List ℕ) (lebs : List ℕ) (row : KeyedRow) → fits fanout (bare row) ≡ true
-        → AreOutside contents lebs row → AreOutside contents lebs (changed fanout change row) }
+        → AreOutside contents lebs row → AreOutside contents lebs (changed_row fanout change row) }
 {
     a_range_removal_leaves_the_keys_of_branches();
 }
@@ -62,7 +62,7 @@ pub fn dirty_nodes_are_distinct()
 pub fn changes_keep_keys_apart()
     ensures in_order { (row : KeyedRow) → AreKeys row → AreKeysApart None row → AreKeysInOrder row }
     ensures changed { (fanout : ℕ) (change : AChange) (row : KeyedRow) → 1 ≤ fanout → IsChange change → IsFreeChange change row → AreKeysBounded 0 None row
-        → AreKeysApart None row → AreKeysApart None (changed fanout change row) }
+        → AreKeysApart None row → AreKeysApart None (changed_row fanout change row) }
     ensures places { (old new : KeyedRow) → KeepsPlaces old new → AreKeysApart None old → AreKeysApart None new }
     ensures first_keys { (row : KeyedRow) → HaveFirstKeys row → AreLeavesApart None (contents (bare row)) → AreKeysApart None row }
 {}

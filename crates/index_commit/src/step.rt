@@ -10,7 +10,7 @@ ghost use Rattle.index_commit.specs.Answers.{HasEqualKeys, IsIndexAnswered, IsIn
 ghost use Rattle.index_commit.specs.LebTexts.{IsLebLeft, IsLebOf, IsNextLeb, index_bytes, nodes_written};
 ghost use Rattle.index_commit.specs.Ordered.{AreKeysInOrder, IsNotEqualKeys};
 ghost use Rattle.index_commit.specs.Rooms.{room_in};
-ghost use Rattle.index_commit.specs.Written.{AreStanding, IsIndexTaken, IsUntouched, KeepsOtherIndexes, WorksInLebs};
+ghost use Rattle.index_commit.specs.Written.{AreStanding, IsIndexTaken, IsIndexUntouched, KeepsOtherIndexes, WorksInLebs};
 
 use crate::index_at::{IndexHead, WrittenLeb};
 use crate::index_fault::IndexFault;
@@ -53,7 +53,7 @@ pub fn write_next_leb<V: Volume>(
     ensures old_stays { KeepsOtherIndexes (V.state volume.old) (V.state volume.new) (lnum ∷ []) }
     ensures answer { IsIndexAnswered (V.state volume.old) (V.state volume.new) result × IsNotFull result
         × HasEqualKeys index.new result × (AreKeysInOrder (frozen_of index.old) → IsNotEqualKeys result)
-        × OnMemory (IsUntouched (V.state volume.old) (V.state volume.new) index.old index.new sqnum.old sqnum.new) result }
+        × OnMemory (IsIndexUntouched (V.state volume.old) (V.state volume.new) index.old index.new sqnum.old sqnum.new) result }
 {
     an_index_depends_on_its_lebs_alone();
     places_are_kept();

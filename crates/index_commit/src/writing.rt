@@ -17,7 +17,7 @@ ghost use Rattle.index_commit.specs.Lebs.{AreGivable};
 ghost use Rattle.index_commit.specs.Ordered.{AreKeysInOrder, IsNotEqualKeys};
 ghost use Rattle.index_commit.specs.Rooms.{IsIndexLaidOut, head_after, room_in, taken_room, whole_units};
 ghost use Rattle.index_commit.specs.Standing.{AreOutside};
-ghost use Rattle.index_commit.specs.Written.{AreStanding, AreWritten, IsHeadAfter, IsIndexAt, IsIndexTaken, IsLebPut, IsPutLeft, IsUntouched, KeepsOtherIndexes, WorksInLebs, with_leb_bytes};
+ghost use Rattle.index_commit.specs.Written.{AreStanding, AreWritten, IsHeadAfter, IsIndexAt, IsIndexTaken, IsLebPut, IsPutLeft, IsIndexUntouched, KeepsOtherIndexes, WorksInLebs, with_leb_bytes};
 
 use crate::index_at::{IndexAt, IndexHead};
 use crate::index_fault::IndexFault;
@@ -61,7 +61,7 @@ pub fn write_index<V: Volume>(
     ensures answer { IsIndexAnswered (V.state volume.old) (V.state volume.new) result
         × IsFullOf (Keeps (V.state volume.old) (V.state volume.new) × (index.new ≡ index.old)) (div_ceil (length (dirty_of index.old)) (index_nodes_per_leb (raw_of geometry.now))) (length lebs.now) result
         × HasEqualKeys index.new result × (AreKeysInOrder (frozen_of index.old) → IsNotEqualKeys result)
-        × OnMemory (IsUntouched (V.state volume.old) (V.state volume.new) index.old index.new sqnum.old sqnum.new) result }
+        × OnMemory (IsIndexUntouched (V.state volume.old) (V.state volume.new) index.old index.new sqnum.old sqnum.new) result }
 {
     an_index_depends_on_its_lebs_alone();
     places_are_kept();

@@ -4,7 +4,7 @@ use Rattle.std.specs.Prelude.{Option, Some, Result, Ok}
 use Rattle.std.proofs.lemmas.List.Elements.{All-weaker}
 use Rattle.commit_steps.specs.UnderWayLaws.{all_given, given_front, given_of}
 use Rattle.index_commit.specs.Answers.{IsIndexNotFailed}
-use Rattle.index_commit.specs.Lebs.{AreApart, IsGiven}
+use Rattle.index_commit.specs.Lebs.{AreLebsApart, IsGiven}
 use Rattle.index_commit.specs.declared.index_at.IndexAt.{IndexAt}
 use Rattle.index_commit.specs.declared.index_fault.IndexFault.{IndexFault}
 use Rattle.index_media.specs.Clean.{placed_of}
@@ -59,7 +59,7 @@ changed_well geometry a b index after next made h changed shape same = record {
 }
 
 -- LEBs before the next one, and the next one
-pub one_apart : (kept : List ℕ) (next : ℕ) → ((k : ℕ) → IsGiven kept k → k < next) → AreApart kept (next ∷ [])
+pub one_apart : (kept : List ℕ) (next : ℕ) → ((k : ℕ) → IsGiven kept k → k < next) → AreLebsApart kept (next ∷ [])
 one_apart kept next before k own one = elim one [
   | inl e ↦ let less = before k own in absurd (omega (arith, less, e))
   | inr none ↦ none

@@ -4,7 +4,7 @@ use Rattle.std.specs.Prelude.{All, OnOk, Ok, Err, Result}
 use Rattle.std.proofs.Math.Nat.{mul-suc}
 use Rattle.std.proofs.lemmas.List.Elements.{All-weaker}
 use Rattle.commit_steps.specs.UnderWayLaws.{all_given, given_all, given_behind, given_front, given_of}
-use Rattle.index_commit.specs.Lebs.{AreApart, AreGivable, IsGiven}
+use Rattle.index_commit.specs.Lebs.{AreLebsApart, AreGivable, IsGiven}
 use Rattle.index_commit.specs.declared.index_fault.IndexFault.{IndexFault}
 use Rattle.ubi_volume.specs.Geometry.{IsGeometryOf}
 use Rattle.ubi_volume.specs.Volume.{SameShape, VolumeState}
@@ -28,20 +28,20 @@ geometry_now own now a b same shape h = let G : Geometry → Type 0 = λ g. IsGe
 pub givable_now : (a b : VolumeState) (lebs : List ℕ) → SameShape a b → AreGivable a.leb_cnt lebs → AreGivable b.leb_cnt lebs
 givable_now a b lebs shape h = let G : ℕ → Type 0 = λ n. AreGivable n lebs in subst G (sym shape.leb_cnt) h
 
-pub apart_later : (others : List ℕ) (lnum : ℕ) (rest : List ℕ) → AreApart others (lnum ∷ rest) → AreApart others rest
+pub apart_later : (others : List ℕ) (lnum : ℕ) (rest : List ℕ) → AreLebsApart others (lnum ∷ rest) → AreLebsApart others rest
 apart_later others lnum rest h k own one = h k own (inr one)
 
-pub apart_first : (others : List ℕ) (lnum : ℕ) (rest : List ℕ) → AreApart others (lnum ∷ rest) → AreApart others (lnum ∷ [])
+pub apart_first : (others : List ℕ) (lnum : ℕ) (rest : List ℕ) → AreLebsApart others (lnum ∷ rest) → AreLebsApart others (lnum ∷ [])
 apart_first others lnum rest h k own one = elim one [ inl e ↦ h k own (inl e) | inr none ↦ none ]
 
 -- once a LEB is given, the others are apart from it too
-pub apart_then : (lebs : List ℕ) (lnum : ℕ) (rest : List ℕ) → (IsGiven rest lnum → ⊥) → AreApart lebs (lnum ∷ rest) → AreApart (lnum ∷ lebs) rest
+pub apart_then : (lebs : List ℕ) (lnum : ℕ) (rest : List ℕ) → (IsGiven rest lnum → ⊥) → AreLebsApart lebs (lnum ∷ rest) → AreLebsApart (lnum ∷ lebs) rest
 apart_then lebs lnum rest first h k one other =
     let G : ℕ → Type 0 = λ m. IsGiven rest m in
     elim one [ inl e ↦ first (subst G e other) | inr before ↦ h k before (inr other) ]
 
 -- LEBs of a commit that was given some of these, and the ones behind them
-pub apart_since : (lebs given kept since rest : List ℕ) → All (IsGiven (lebs ++ given)) since → AreApart lebs rest → AreApart (given ++ kept) rest → AreApart (since ++ kept) rest
+pub apart_since : (lebs given kept since rest : List ℕ) → All (IsGiven (lebs ++ given)) since → AreLebsApart lebs rest → AreLebsApart (given ++ kept) rest → AreLebsApart (since ++ kept) rest
 apart_since lebs given kept since rest among two apart k one other = elim (given_of since kept k one) [
   | inl own ↦ elim (given_of lebs given k (all_given (IsGiven (lebs ++ given)) since among k own)) [
     | inl front ↦ two k front other
@@ -102,5 +102,5 @@ number_rest q n i j first rest most small =
     omega (arith, small, most, sum, one)
 
 -- of LEBs of which no two are the same, the first is apart from the rest
-pub first_apart : (first : ℕ) (rest : List ℕ) → (IsGiven rest first → ⊥) → AreApart (first ∷ []) rest
+pub first_apart : (first : ℕ) (rest : List ℕ) → (IsGiven rest first → ⊥) → AreLebsApart (first ∷ []) rest
 first_apart first rest two k one other = let G : ℕ → Type 0 = λ m. IsGiven rest m in elim one [ inl e ↦ two (subst G e other) | inr none ↦ none ]

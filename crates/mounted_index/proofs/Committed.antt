@@ -34,11 +34,11 @@ use Rattle.ubi_volume.specs.FrameLaws.{IsSameLeb-none, Works-none}
 use Rattle.ubi_volume.specs.Volume.{VolumeState, Keeps, Leaves, Only, SameShape}
 use Rattle.ubi_volume.specs.VolumeLaws.{Leaves-none}
 use Rattle.index_cache.specs.Commit.{said_of}
-use Rattle.index_cache.specs.Paged.{dirty_of, fanout_of, frozen_of, tree_of, KeepsRoots}
+use Rattle.index_cache.specs.Paged.{dirty_of, fanout_of, frozen_of, keyed_tree_of, KeepsRoots}
 use Rattle.index_cache.specs.declared.paged.PagedIndex.{PagedIndex}
 use Rattle.index_commit.specs.Answers.{IsFullOf, IsIndexNotFailed, OnMemory}
 use Rattle.index_commit.specs.LebTexts.{AreLebsLeft, AreLebsOf, IsLebOf, firsts, nodes_written}
-use Rattle.index_commit.specs.Lebs.{AreApart, AreGivable, IsGiven}
+use Rattle.index_commit.specs.Lebs.{AreLebsApart, AreGivable, IsGiven}
 use Rattle.index_commit.specs.Ordered.{AreKeysInOrder, IsNotEqualKeys}
 use Rattle.index_commit.specs.Rooms.{AreDistinctNumbers, IsIndexLaidOut, Room, all_rooms, last_head, place_room, rooms_of}
 use Rattle.index_commit.specs.Standing.{AreOutside}
@@ -54,7 +54,7 @@ use Rattle.mounted_index.specs.declared.mounted.IndexNodes.{IndexNodes}
 use Rattle.mounted_index.specs.declared.mounted.IndexNodes.TheVariants.{OnMedium, InMemory}
 use Rattle.mounted_index.specs.declared.mounted.MountedIndex.{MountedIndex}
 use Rattle.mounted_index.proofs.Shown.{nodes_as, staged_as}
-use Rattle.mounted_index.specs.ShownLaws.{all_is_clean, placed_again}
+use Rattle.node_cache.specs.CleanRows.{all_is_clean, placed_again}
 
 givable_there : (n : ℕ) (lebs : List ℕ) → AreGivable n lebs → (k : ℕ) → IsGiven lebs k → k < n
 givable_there n [] h k given = absurd given
@@ -63,8 +63,8 @@ givable_there n (lnum ∷ lebs) h k (inr given) = givable_there n lebs h.2 k giv
 
 -- ---- where nodes stand
 -- the nodes that were written, and those that stood, stand in the given LEBs and in those of before
-pub stands_after : (a b : VolumeState) (kept lebs : List ℕ) (old new : KeyedRow) → SameShape a b → AreGivable a.leb_cnt lebs → AreApart kept lebs
-    → ((others : List ℕ) → AreApart lebs others → AreOutside a.holds (lebs ++ others) old → AreOutside b.holds others new)
+pub stands_after : (a b : VolumeState) (kept lebs : List ℕ) (old new : KeyedRow) → SameShape a b → AreGivable a.leb_cnt lebs → AreLebsApart kept lebs
+    → ((others : List ℕ) → AreLebsApart lebs others → AreOutside a.holds (lebs ++ others) old → AreOutside b.holds others new)
     → StandsIn a kept old → StandsIn b (lebs ++ kept) new
 stands_after a b kept lebs old new shape givable two nodes h = record {
   there = λ k given.
@@ -117,32 +117,32 @@ head_end b lebs dirty now (inl none) = inl none.0
 head_end b lebs dirty now (inr some) = inr some.1
 
 -- the index that is seen, where its clean nodes stand once it was written
-pub seen_stands : (a b : VolumeState) (kept lebs : List ℕ) (old begun final : PagedIndex) (first last : ℕ) → SameShape a b → AreGivable a.leb_cnt lebs → AreApart kept lebs
-    → AreStanding a b lebs begun final first last → final.root ≡ begun.root → tree_of begun ≡ tree_of old → StandsIn a kept (tree_of old) → StandsIn b (lebs ++ kept) (tree_of final)
+pub seen_stands : (a b : VolumeState) (kept lebs : List ℕ) (old begun final : PagedIndex) (first last : ℕ) → SameShape a b → AreGivable a.leb_cnt lebs → AreLebsApart kept lebs
+    → AreStanding a b lebs begun final first last → final.root ≡ begun.root → keyed_tree_of begun ≡ keyed_tree_of old → StandsIn a kept (keyed_tree_of old) → StandsIn b (lebs ++ kept) (keyed_tree_of final)
 seen_stands a b kept lebs old begun final first last shape givable two standing root tree h =
     let T : Option Root → Type 0 = λ r. StandsIn b (lebs ++ kept) (tree_at final.table.nodes.items r) in
     let S : KeyedRow → Type 0 = λ r. StandsIn a kept r in
-    subst T (sym root) (stands_after a b kept lebs (tree_of begun) (tree_at final.table.nodes.items begun.root) shape givable two (λ others apart out. standing.nodes others begun.root apart out) (subst S (sym tree) h))
+    subst T (sym root) (stands_after a b kept lebs (keyed_tree_of begun) (tree_at final.table.nodes.items begun.root) shape givable two (λ others apart out. standing.nodes others begun.root apart out) (subst S (sym tree) h))
 
 -- where it stands then
 pub seen_at : (b : VolumeState) (geo : RawGeometry) (lebs all : List ℕ) (nodes : ℕ) (old begun final : PagedIndex) (at : IndexAt)
     → IsIndexAt b geo.fanout lebs begun final at × IsIndexLaidOut geo lebs nodes begun final at → KeepsRoots begun final
-    → begun.frozen ≡ old.root → begun.root ≡ old.root → frozen_of begun ≡ tree_of old → IsSoundRoot begun.table.nodes.items begun.root
+    → begun.frozen ≡ old.root → begun.root ≡ old.root → frozen_of begun ≡ keyed_tree_of old → IsSoundRoot begun.table.nodes.items begun.root
     → (AreDistinct (contents (bare (frozen_of begun))) → AreDistinctNumbers (dirty_of begun))
-    → StandsIn b all (tree_of final) → IsWrittenAt b geo lebs nodes (tree_of old) (tree_of final) at
+    → StandsIn b all (keyed_tree_of final) → IsWrittenAt b geo lebs nodes (keyed_tree_of old) (keyed_tree_of final) at
 seen_at b geo lebs all nodes old begun final at h roots frozen seen tree sound distinct stands =
     let items = final.table.nodes.items in
     let same : final.frozen ≡ final.root = roots.frozen ∙ frozen ∙ sym (roots.root ∙ seen) in
-    let rows : frozen_of final ≡ tree_of final = ap (tree_at items) same in
+    let rows : frozen_of final ≡ keyed_tree_of final = ap (tree_at items) same in
     let C : KeyedRow → Type 0 = λ r. r ≡ all_clean (placed_of r) in
     let R : KeyedRow → Type 0 = λ r. IsRootOf b.holds geo.fanout r at.root in
     let L : KeyedRow → Type 0 = λ r. AreLebsSettled b lebs (placed_of r) in
     let K : Option Root → Type 0 = λ r. AreKeys (tree_at items r) in
     let D : KeyedRow → Type 0 = λ r. AreDistinct (contents (bare r)) in
-    let M : KeyedRow → Type 0 = λ r. rooms_of r ≡ all_rooms geo lebs 0 (rooms_of (tree_of old)) in
+    let M : KeyedRow → Type 0 = λ r. rooms_of r ≡ all_rooms geo lebs 0 (rooms_of (keyed_tree_of old)) in
     let O : KeyedRow → Type 0 = λ r. rooms_of (frozen_of final) ≡ all_rooms geo lebs 0 (rooms_of r) in
     record {
-      root = root_on b geo.fanout all (tree_of final) at.root (subst C rows h.0.clean) (subst R rows h.0.root) stands (subst K (sym roots.root) (roots.sound begun.root sound).keys);
+      root = root_on b geo.fanout all (keyed_tree_of final) at.root (subst C rows h.0.clean) (subst R rows h.0.root) stands (subst K (sym roots.root) (roots.sound begun.root sound).keys);
       settled = subst L rows h.0.left;
       head = h.1.head;
       end = head_end b lebs (dirty_of begun) at.head h.0.head;
@@ -239,7 +239,7 @@ clean_rooms geo lebs row =
     subst P (append-nil rooms) (sym (rooms_full geo lebs row 0 [] refl))
 
 -- LEBs of which none has a node of the row
-settled_beside : (b : VolumeState) (kept lebs : List ℕ) (row : PlacedRow) → AreApart kept lebs → StandsIn b kept (all_clean row) → AreLebsSettled b lebs row
+settled_beside : (b : VolumeState) (kept lebs : List ℕ) (row : PlacedRow) → AreLebsApart kept lebs → StandsIn b kept (all_clean row) → AreLebsSettled b lebs row
 settled_beside b kept lebs row two h =
     let P : ℕ → Type 0 = λ k. IsGiven lebs k → Only (b.holds k) (b.left_now k) in
     let Q : PlacedRow → Type 0 = λ r. All (IsGiven kept) (lebs_of r) in
@@ -247,7 +247,7 @@ settled_beside b kept lebs row two h =
 
 -- where it stands, though nothing was written
 pub clean_at : (a : VolumeState) (geo : RawGeometry) (kept lebs : List ℕ) (n : ℕ) (root : Branch) (row : KeyedRow) → n ≡ 0 → (placed : PlacedRow) × (row ≡ all_clean placed) × IsIndexOn a geo.fanout root placed
-    → AreApart kept lebs → StandsIn a kept row → IsWrittenAt a geo lebs n row row (record { root = Some root; head = None })
+    → AreLebsApart kept lebs → StandsIn a kept row → IsWrittenAt a geo lebs n row row (record { root = Some root; head = None })
 clean_at a geo kept lebs n root row none on two stands =
     let placed = on.0 in
     let S : KeyedRow → Type 0 = λ r. StandsIn a kept r in
@@ -305,11 +305,11 @@ pub record IsSeenWritten (a b : VolumeState) (geo : RawGeometry) (lebs kept : Li
   pub at : IfOk result (IsWrittenAt b geo lebs (j - i) old new)
   pub untouched : OnWant (Keeps a b × (new ≡ old) × (j ≡ i)) result
   pub full : IsShortOf (div_ceil need (index_nodes_per_leb geo)) (length lebs) result
-  pub stands : StandsIn a kept old → AreApart kept lebs → IsIndexNotFailed result → StandsIn b (lebs ++ kept) new
+  pub stands : StandsIn a kept old → AreLebsApart kept lebs → IsIndexNotFailed result → StandsIn b (lebs ++ kept) new
   pub order : AreKeysInOrder old → IsNotEqualKeys result
 
 pub commit_seen : (a b : VolumeState) (lebs kept : List ℕ) (i j : ℕ) (self after : MountedIndex) (row : KeyedRow) (index final : PagedIndex) (result : Result IndexAt IndexFault) → self.nodes ≡ InMemory index → IsBeside a lebs kept self row
-    → IsSeenWritten a b (raw_of self.geometry) lebs kept i j (length (dirty_below index.table.nodes.items index.root)) (tree_of index) (tree_of final) result → Shows b after (tree_of final) → OnWant (KeepsShown a b self after) result
+    → IsSeenWritten a b (raw_of self.geometry) lebs kept i j (length (dirty_below index.table.nodes.items index.root)) (keyed_tree_of index) (keyed_tree_of final) result → Shows b after (keyed_tree_of final) → OnWant (KeepsShown a b self after) result
     → IsCommit a b lebs kept i j self after row result
 commit_seen a b lebs kept i j self after row index final result is h seen shown same =
     let own = nodes_as a self.geometry.fanout row self.nodes (InMemory index) is h.shown.nodes in
@@ -318,7 +318,7 @@ commit_seen a b lebs kept i j self after row index final result is h seen shown 
     let P : KeyedRow → Type 0 = λ r. IsCommit a b lebs kept i j self after r result in
     let F : ℕ → Type 0 = λ n. IsShortOf (div_ceil n (index_nodes_per_leb (raw_of self.geometry))) (length lebs) result in
     subst P (sym own.0) (record {
-      now = tree_of final;
+      now = keyed_tree_of final;
       shown = shown;
       places = seen.places;
       at = seen.at;
@@ -344,7 +344,7 @@ pub kept_shown : (a b : VolumeState) (self : MountedIndex) (cache : NodeCache) (
 kept_shown a b self cache index final is kept same fanout =
     let f = self.geometry.fanout in
     let items = index.table.nodes.items in
-    let tree : tree_of final ≡ tree_of index = ap (λ (xs : List TableNode). tree_at xs final.root) same.0 ∙ ap (tree_at items) same.1 in
+    let tree : keyed_tree_of final ≡ keyed_tree_of index = ap (λ (xs : List TableNode). tree_at xs final.root) same.0 ∙ ap (tree_at items) same.1 in
     record {
       shown = λ row s. let own = nodes_as a f row self.nodes (InMemory index) is s.nodes in record { nodes = (own.0 ∙ sym tree, fanout ∙ own.1); kept = kept };
       staged = λ staged row s.

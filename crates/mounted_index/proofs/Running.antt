@@ -21,17 +21,17 @@ use Rattle.node_table.specs.Placing.{KeepsPlaces}
 use Rattle.node_table.specs.Staging.{IsSoundRoot}
 use Rattle.table_nodes.specs.declared.node.Root.{Root}
 use Rattle.table_nodes.specs.declared.node.TableNode.{TableNode}
-use Rattle.index_cache.specs.Paged.{dirty_of, fanout_of, frozen_of, tree_of, KeepsNodes}
+use Rattle.index_cache.specs.Paged.{dirty_of, fanout_of, frozen_of, keyed_tree_of, KeepsNodes}
 use Rattle.index_cache.specs.declared.calls.Staged.{Staged}
 use Rattle.index_cache.specs.declared.commit.DirtyNode.{DirtyNode}
 use Rattle.index_cache.specs.declared.paged.PagedIndex.{PagedIndex}
 use Rattle.index_commit.specs.Answers.{IsIndexNotFailed, IsNotFull, OnMemory}
 use Rattle.index_commit.specs.LebTexts.{IsLebLeft, IsLebOf, IsNextLeb, index_bytes, nodes_written}
-use Rattle.index_commit.specs.Lebs.{AreApart, IsGiven}
+use Rattle.index_commit.specs.Lebs.{AreLebsApart, IsGiven}
 use Rattle.index_commit.specs.Ordered.{AreKeysInOrder}
 use Rattle.index_commit.specs.Rooms.{Room}
 use Rattle.index_commit.specs.Standing.{AreOutside}
-use Rattle.index_commit.specs.Written.{AreStanding, IsIndexTaken, IsRootOf, IsUntouched, WorksInLebs}
+use Rattle.index_commit.specs.Written.{AreStanding, IsIndexTaken, IsRootOf, IsIndexUntouched, WorksInLebs}
 use Rattle.index_commit.specs.declared.index_at.WrittenLeb.{WrittenLeb}
 use Rattle.index_commit.specs.declared.index_fault.IndexFault.{IndexFault}
 use Rattle.index_commit.specs.declared.index_fault.IndexFault.TheVariants.{Memory, Full, EqualKeys, Volume}
@@ -44,12 +44,13 @@ use Rattle.mounted_index.specs.Committed.{HasNodesFrom, IsRootOn}
 use Rattle.mounted_index.specs.Running.{IsAfterStep, IsCommitEnded, IsCommitOfNodes, IsCommitRunning, IsCommitStep, IsStepWritten, dirty_left}
 use Rattle.mounted_index.specs.RunningLaws.{StandsIn-running}
 use Rattle.mounted_index.specs.Shown.{KeepsOutside, KeepsShown, Shows, ShowsStaged, StandsIn, are_on_medium}
-use Rattle.mounted_index.specs.ShownLaws.{LoadedNodesStand, StandsIn-taken, all_is_clean, placed_again}
+use Rattle.mounted_index.specs.ShownLaws.{LoadedNodesStand, StandsIn-taken}
 use Rattle.mounted_index.specs.declared.mounted.IndexNodes.{IndexNodes}
 use Rattle.mounted_index.specs.declared.mounted.IndexNodes.TheVariants.{OnMedium, InMemory}
 use Rattle.mounted_index.specs.declared.mounted.MountedIndex.{MountedIndex}
 use Rattle.mounted_index.proofs.Committed.{if_ok_done, kept_shown, nodes_count, nodes_let_go, none_works, root_on, stands_after, stands_more}
 use Rattle.mounted_index.proofs.Shown.{nodes_as, staged_as}
+use Rattle.node_cache.specs.CleanRows.{all_is_clean, placed_again}
 
 -- an index with these nodes
 abbrev pub with_nodes : MountedIndex → IndexNodes → NodeCache → MountedIndex
@@ -67,7 +68,7 @@ pub frozen_shown : (a : VolumeState) (self : MountedIndex) (index final : PagedI
     → KeepsShown a a self (with_nodes self (InMemory final) self.cache)
 frozen_shown a self index final is items seen fanout =
     let f = self.geometry.fanout in
-    let tree : tree_of final ≡ tree_of index = ap (λ (xs : List TableNode). tree_at xs final.root) items ∙ ap (tree_at index.table.nodes.items) seen in
+    let tree : keyed_tree_of final ≡ keyed_tree_of index = ap (λ (xs : List TableNode). tree_at xs final.root) items ∙ ap (tree_at index.table.nodes.items) seen in
     record {
       shown = λ row s. let own = nodes_as a f row self.nodes (InMemory index) is s.nodes in record { nodes = (own.0 ∙ sym tree, fanout ∙ own.1); kept = s.kept };
       staged = λ staged row s.
@@ -84,8 +85,8 @@ begun_alone a kept self row root is s stands settled =
     let N : IndexNodes → Type 0 = λ n. IsCommitOfNodes a kept [] row row n in
     record { shown = s; there = stands.there; nodes = subst N (sym is) (refl, settled, stands.within) }
 
-pub begun_frozen : ((row : KeyedRow) → KeepsPlaces row row) → (a : VolumeState) (kept : List ℕ) (self : MountedIndex) (row : KeyedRow) (index final : PagedIndex) → self.nodes ≡ InMemory index → frozen_of final ≡ tree_of index
-    → tree_of final ≡ tree_of index → fanout_of final ≡ fanout_of index → Shows a self row → StandsIn a kept row → AreSettledLebs a kept → IsCommitRunning a kept [] row (with_nodes self (InMemory final) self.cache) row
+pub begun_frozen : ((row : KeyedRow) → KeepsPlaces row row) → (a : VolumeState) (kept : List ℕ) (self : MountedIndex) (row : KeyedRow) (index final : PagedIndex) → self.nodes ≡ InMemory index → frozen_of final ≡ keyed_tree_of index
+    → keyed_tree_of final ≡ keyed_tree_of index → fanout_of final ≡ fanout_of index → Shows a self row → StandsIn a kept row → AreSettledLebs a kept → IsCommitRunning a kept [] row (with_nodes self (InMemory final) self.cache) row
 begun_frozen none a kept self row index final is frozen tree fanout s stands settled =
     let own = nodes_as a self.geometry.fanout row self.nodes (InMemory index) is s.nodes in
     let W : KeyedRow → Type 0 = λ r. AreWithinLebs a.holds kept r in
@@ -99,15 +100,15 @@ begun_frozen none a kept self row index final is frozen tree fanout s stands set
 -- ---- changes
 -- the index was loaded from the volume, and frozen
 pub loaded_running : ((row : KeyedRow) → KeepsPlaces row row) → (a b : VolumeState) (kept given : List ℕ) (begun : KeyedRow) (self : MountedIndex) (row : KeyedRow) (root : Branch) (loaded final : PagedIndex) (cache : NodeCache)
-    → self.nodes ≡ OnMedium root → Keeps a b → ((placed : PlacedRow) → IsIndexOn a self.geometry.fanout root placed → tree_of loaded ≡ all_clean placed) → fanout_of final ≡ self.geometry.fanout
-    → frozen_of final ≡ tree_of loaded → tree_of final ≡ tree_of loaded → AreKept b.holds cache → SameShape a b → IsCommitRunning a kept given begun self row → IsCommitRunning b kept given begun (with_nodes self (InMemory final) cache) row
+    → self.nodes ≡ OnMedium root → Keeps a b → ((placed : PlacedRow) → IsIndexOn a self.geometry.fanout root placed → keyed_tree_of loaded ≡ all_clean placed) → fanout_of final ≡ self.geometry.fanout
+    → frozen_of final ≡ keyed_tree_of loaded → keyed_tree_of final ≡ keyed_tree_of loaded → AreKept b.holds cache → SameShape a b → IsCommitRunning a kept given begun self row → IsCommitRunning b kept given begun (with_nodes self (InMemory final) cache) row
 loaded_running none a b kept given begun self row root loaded final cache is keeps loads fanout frozen tree clear shape h =
     let lebs : List ℕ = given ++ kept in
     let own = nodes_as a self.geometry.fanout row self.nodes (OnMedium root) is h.shown.nodes in
     let run = run_as a kept given begun row self.nodes (OnMedium root) is h.nodes in
-    let same : tree_of loaded ≡ row = loads own.0 own.2 ∙ sym own.1 in
+    let same : keyed_tree_of loaded ≡ row = loads own.0 own.2 ∙ sym own.1 in
     let whole : frozen_of final ≡ begun = frozen ∙ same ∙ run.0 in
-    let seen : tree_of final ≡ begun = tree ∙ same ∙ run.0 in
+    let seen : keyed_tree_of final ≡ begun = tree ∙ same ∙ run.0 in
     let W : KeyedRow → Type 0 = λ r. AreWithinLebs a.holds lebs r in
     let K : KeyedRow → Type 0 = λ r. KeepsPlaces begun r in
     let P : ℕ → Type 0 = λ n. (k : ℕ) → IsGiven lebs k → k < n in
@@ -124,7 +125,7 @@ loaded_running none a b kept given begun self row root loaded final cache is kee
     }
 
 -- changes were made beside what is shown
-pub staged_running : (b : VolumeState) (kept given : List ℕ) (begun : KeyedRow) (self : MountedIndex) (row : KeyedRow) (index new : PagedIndex) → self.nodes ≡ InMemory index → KeepsNodes index new → tree_of new ≡ tree_of index
+pub staged_running : (b : VolumeState) (kept given : List ℕ) (begun : KeyedRow) (self : MountedIndex) (row : KeyedRow) (index new : PagedIndex) → self.nodes ≡ InMemory index → KeepsNodes index new → keyed_tree_of new ≡ keyed_tree_of index
     → IsCommitRunning b kept given begun self row → IsCommitRunning b kept given begun (with_nodes self (InMemory new) self.cache) row
 staged_running b kept given begun self row index new is nodes tree h =
     let own = nodes_as b self.geometry.fanout row self.nodes (InMemory index) is h.shown.nodes in
@@ -141,14 +142,14 @@ staged_running b kept given begun self row index new is nodes tree h =
 
 -- they are shown
 pub adopted_running : (b : VolumeState) (kept given : List ℕ) (begun : KeyedRow) (self : MountedIndex) (row made : KeyedRow) (index new : PagedIndex) (staged : Staged) → self.nodes ≡ InMemory index → KeepsNodes index new
-    → tree_of new ≡ tree_at index.table.nodes.items staged.root → IsCommitRunning b kept given begun self row → ShowsStaged b self staged made → KeepsOutside row made
+    → keyed_tree_of new ≡ tree_at index.table.nodes.items staged.root → IsCommitRunning b kept given begun self row → ShowsStaged b self staged made → KeepsOutside row made
     → IsCommitRunning b kept given begun (with_nodes self (InMemory new) self.cache) made
 adopted_running b kept given begun self row made index new staged is nodes tree h s keeps =
     let f = self.geometry.fanout in
     let own = nodes_as b f row self.nodes (InMemory index) is h.shown.nodes in
     let run = run_as b kept given begun row self.nodes (InMemory index) is h.nodes in
     let beside = staged_as f made staged self.nodes (InMemory index) is s.nodes in
-    let to : tree_of new ≡ made = tree ∙ sym beside.0 in
+    let to : keyed_tree_of new ≡ made = tree ∙ sym beside.0 in
     let K : KeyedRow → Type 0 = λ r. KeepsPlaces begun r in
     record {
       shown = record { nodes = (sym to, nodes.fanout ∙ own.1); kept = h.shown.kept };
@@ -172,7 +173,7 @@ pub record IsLebTaken (geo : RawGeometry) (a b : VolumeState) (lnum i j : ℕ) (
   pub standing : IsIndexNotFailed result → AreStanding a b (lnum ∷ []) index final i j × IsLebOf geo a b lnum i (nodes_written index final (j - i))
   pub works : WorksInLebs a b (lnum ∷ [])
   pub some : IfOk result (λ done. i < j)
-  pub same : OnMemory (IsUntouched a b index final i j) result
+  pub same : OnMemory (IsIndexUntouched a b index final i j) result
   pub full : IsNotFull result
 
 step_there : (a b : VolumeState) (lnum : ℕ) (lebs : List ℕ) → SameShape a b → lnum < a.leb_cnt → ((k : ℕ) → IsGiven lebs k → k < a.leb_cnt) → (k : ℕ) → IsGiven (lnum ∷ lebs) k → k < b.leb_cnt
@@ -181,13 +182,13 @@ step_there a b lnum lebs shape own there k one =
     let Q : ℕ → Type 0 = λ n. n < a.leb_cnt in
     subst P (sym shape.leb_cnt) (elim one [ inl e ↦ subst Q (sym e) own | inr more ↦ there k more ])
 
-one_apart : (lebs : List ℕ) (lnum : ℕ) → (IsGiven lebs lnum → ⊥) → AreApart lebs (lnum ∷ [])
+one_apart : (lebs : List ℕ) (lnum : ℕ) → (IsGiven lebs lnum → ⊥) → AreLebsApart lebs (lnum ∷ [])
 one_apart lebs lnum apart k own one = let G : ℕ → Type 0 = λ m. IsGiven lebs m in elim one [ inl e ↦ apart (subst G e own) | inr none ↦ none ]
 
 step_running : {room : ℕ → Room} → ((first second third : KeyedRow) → KeepsPlaces first second → KeepsPlaces second third → KeepsPlaces first third) → (geo : RawGeometry) (a b : VolumeState) (lnum i j : ℕ) (kept given : List ℕ) (begun : KeyedRow)
     (self : MountedIndex) (row : KeyedRow) (index final : PagedIndex) (cache : NodeCache) (result : Result WrittenLeb IndexFault) → self.nodes ≡ InMemory index → SameShape a b → lnum < a.leb_cnt
-    → IsLebTaken geo a b lnum i j index final room result → Shows b (with_nodes self (InMemory final) cache) (tree_of final) → IsCommitRunning a kept given begun self row → (IsGiven (given ++ kept) lnum → ⊥)
-    → IsAfterStep (IsCommitRunning b kept (lnum ∷ given) begun (with_nodes self (InMemory final) cache) (tree_of final)) (IsCommitRunning b kept given begun (with_nodes self (InMemory final) cache) (tree_of final) × (tree_of final ≡ row)) result
+    → IsLebTaken geo a b lnum i j index final room result → Shows b (with_nodes self (InMemory final) cache) (keyed_tree_of final) → IsCommitRunning a kept given begun self row → (IsGiven (given ++ kept) lnum → ⊥)
+    → IsAfterStep (IsCommitRunning b kept (lnum ∷ given) begun (with_nodes self (InMemory final) cache) (keyed_tree_of final)) (IsCommitRunning b kept given begun (with_nodes self (InMemory final) cache) (keyed_tree_of final) × (keyed_tree_of final ≡ row)) result
 step_running both geo a b lnum i j kept given begun self row index final cache (Ok x) is shape there leb shown h apart =
     let run = run_as a kept given begun row self.nodes (InMemory index) is h.nodes in
     record {
@@ -205,7 +206,7 @@ step_running both geo a b lnum i j kept given begun self row index final cache (
         there = subst P (sym shape.leb_cnt) h.there;
         nodes = subst N (sym leb.same.index) (commit_beside a b kept given index (WorksBeside-keeps a b (given ++ kept) leb.same.volume) run.0, run.1);
       },
-      ap tree_of leb.same.index ∙ sym own.0,
+      ap keyed_tree_of leb.same.index ∙ sym own.0,
     )
 step_running both geo a b lnum i j kept given begun self row index final cache (Err (Full need wanted)) is shape there leb shown h apart = leb.full
 step_running both geo a b lnum i j kept given begun self row index final cache (Err EqualKeys) is shape there leb shown h apart = tt
@@ -225,19 +226,19 @@ pub stepped : {room : ℕ → Room} → ((first second third : KeyedRow) → Kee
 stepped both geo a b lnum i j kept given begun self row index final cache result is shape there leb clear h apart =
     let own = nodes_as a self.geometry.fanout row self.nodes (InMemory index) is h.shown.nodes in
     let run = run_as a kept given begun row self.nodes (InMemory index) is h.nodes in
-    let K : KeyedRow → Type 0 = λ r. KeepsPlaces r (tree_of final) in
-    let shown : Shows b (with_nodes self (InMemory final) cache) (tree_of final) = record { nodes = (refl, leb.taken.kept.roots.fanout ∙ own.1); kept = clear } in
+    let K : KeyedRow → Type 0 = λ r. KeepsPlaces r (keyed_tree_of final) in
+    let shown : Shows b (with_nodes self (InMemory final) cache) (keyed_tree_of final) = record { nodes = (refl, leb.taken.kept.roots.fanout ∙ own.1); kept = clear } in
     record {
-      now = tree_of final;
+      now = keyed_tree_of final;
       places = subst K (sym own.0) leb.taken.kept.tree;
       shown = shown;
       running = step_running both geo a b lnum i j kept given begun self row index final cache result is shape there leb shown h apart;
-      same = memory_more (IsUntouched a b index final i j) (KeepsShown a b self (with_nodes self (InMemory final) cache)) result leb.same
+      same = memory_more (IsIndexUntouched a b index final i j) (KeepsShown a b self (with_nodes self (InMemory final) cache)) result leb.same
           (λ u. kept_shown a b self cache index final is clear (ap (λ (x : PagedIndex). x.table.nodes.items) u.index, ap (λ (x : PagedIndex). x.root) u.index) (ap fanout_of u.index));
       stands = λ fine.
           let standing = (leb.standing fine).0 in
           let S : Option Root → Type 0 = λ r. StandsIn b ((lnum ∷ []) ++ (given ++ kept)) (tree_at final.table.nodes.items r) in
-          subst S (sym leb.taken.kept.roots.root) (stands_after a b (given ++ kept) (lnum ∷ []) (tree_of index) (tree_at final.table.nodes.items index.root) shape (there, (λ none. none), tt) (one_apart (given ++ kept) lnum apart)
+          subst S (sym leb.taken.kept.roots.root) (stands_after a b (given ++ kept) (lnum ∷ []) (keyed_tree_of index) (tree_at final.table.nodes.items index.root) shape (there, (λ none. none), tt) (one_apart (given ++ kept) lnum apart)
           (λ others two out. standing.nodes others index.root two out) (record { there = h.there; within = run.0.seen }));
     }
 
@@ -383,8 +384,8 @@ ended_alone stand none a kept given begun self row root is h =
     }
 
 -- all nodes of the index that is shown are clean, and go
-pub let_go_shown : (a : VolumeState) (kept given : List ℕ) (begun : KeyedRow) (self : MountedIndex) (row : KeyedRow) (index final : PagedIndex) (root : Option Branch) (nodes : IndexNodes) → self.nodes ≡ InMemory index → frozen_of final ≡ tree_of index
-    → fanout_of final ≡ fanout_of index → frozen_of final ≡ all_clean (placed_of (frozen_of final)) → IsToldRoot final root → AreKeys (tree_of index) → HasNodesFrom self.geometry.fanout root nodes → IsCommitRunning a kept given begun self row
+pub let_go_shown : (a : VolumeState) (kept given : List ℕ) (begun : KeyedRow) (self : MountedIndex) (row : KeyedRow) (index final : PagedIndex) (root : Option Branch) (nodes : IndexNodes) → self.nodes ≡ InMemory index → frozen_of final ≡ keyed_tree_of index
+    → fanout_of final ≡ fanout_of index → frozen_of final ≡ all_clean (placed_of (frozen_of final)) → IsToldRoot final root → AreKeys (keyed_tree_of index) → HasNodesFrom self.geometry.fanout root nodes → IsCommitRunning a kept given begun self row
     → Shows a (with_nodes self nodes self.cache) row
 let_go_shown a kept given begun self row index final root nodes is frozen fanout clean told keys has h =
     let f = self.geometry.fanout in
@@ -400,7 +401,7 @@ let_go_shown a kept given begun self row index final root nodes is frozen fanout
     }
 
 -- the nodes stay
-pub stay_shown : (a : VolumeState) (kept given : List ℕ) (begun : KeyedRow) (self : MountedIndex) (row : KeyedRow) (index final : PagedIndex) → self.nodes ≡ InMemory index → tree_of final ≡ tree_of index → fanout_of final ≡ fanout_of index
+pub stay_shown : (a : VolumeState) (kept given : List ℕ) (begun : KeyedRow) (self : MountedIndex) (row : KeyedRow) (index final : PagedIndex) → self.nodes ≡ InMemory index → keyed_tree_of final ≡ keyed_tree_of index → fanout_of final ≡ fanout_of index
     → IsCommitRunning a kept given begun self row → Shows a (with_nodes self (InMemory final) self.cache) row
 stay_shown a kept given begun self row index final is tree fanout h =
     let own = nodes_as a self.geometry.fanout row self.nodes (InMemory index) is h.shown.nodes in

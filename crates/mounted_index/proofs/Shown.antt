@@ -1,6 +1,6 @@
 -- What an index shows, by where its nodes are, and while a volume is only read.
 use Rattle.std.proofs.Common.{◌≡◌, ℕ, List, ap, sym, ◌∙◌, subst}
-use Rattle.index_cache.specs.Paged.{fanout_of, tree_of}
+use Rattle.index_cache.specs.Paged.{fanout_of, keyed_tree_of}
 use Rattle.index_cache.specs.declared.calls.Staged.{Staged}
 use Rattle.index_cache.specs.declared.paged.PagedIndex.{PagedIndex}
 use Rattle.index_media.specs.KeyedRow.{KeyedRow, all_clean, bare}
@@ -43,13 +43,13 @@ of_medium clean a fanout row nodes root P is h f =
 
 -- ---- changes
 -- what changes make, over the index in memory
-pub made_there : (f own : ℕ) (row : KeyedRow) (changes : List Change) (index : PagedIndex) → own ≡ f → (row ≡ tree_of index) × (fanout_of index ≡ own)
-    → changed_by f changes row ≡ changed_by (fanout_of index) changes (tree_of index)
+pub made_there : (f own : ℕ) (row : KeyedRow) (changes : List Change) (index : PagedIndex) → own ≡ f → (row ≡ keyed_tree_of index) × (fanout_of index ≡ own)
+    → changed_by f changes row ≡ changed_by (fanout_of index) changes (keyed_tree_of index)
 made_there f own row changes index same h =
     ap (λ (n : ℕ). changed_by n changes row) (sym (h.1 ∙ same)) ∙ ap (λ (r : KeyedRow). changed_by (fanout_of index) changes r) h.0
 
 -- a list of changes was staged in memory
-pub staged_row : (f own : ℕ) (row : KeyedRow) (changes : List Change) (index new : PagedIndex) (staged : Staged) → own ≡ f → (row ≡ tree_of index) × (fanout_of index ≡ own)
-    → tree_at new.table.nodes.items staged.root ≡ changed_by (fanout_of index) changes (tree_of index) → fanout_of new ≡ fanout_of index → IsSoundRoot new.table.nodes.items staged.root
+pub staged_row : (f own : ℕ) (row : KeyedRow) (changes : List Change) (index new : PagedIndex) (staged : Staged) → own ≡ f → (row ≡ keyed_tree_of index) × (fanout_of index ≡ own)
+    → tree_at new.table.nodes.items staged.root ≡ changed_by (fanout_of index) changes (keyed_tree_of index) → fanout_of new ≡ fanout_of index → IsSoundRoot new.table.nodes.items staged.root
     → IsStagedRow own (changed_by f changes row) staged (InMemory new)
 staged_row f own row changes index new staged same h made fanout sound = (made_there f own row changes index same h ∙ sym made, fanout ∙ h.1, sound)

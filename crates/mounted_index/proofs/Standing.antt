@@ -13,8 +13,8 @@ use Rattle.index_media.specs.InsertionSound.{fit_node, fits_node, inserted_grown
 use Rattle.index_media.specs.KeyedRange.{pruned_by_keys, without_range_by_keys}
 use Rattle.index_media.specs.KeyedRemoval.{keyed_collapsed, removed_by_keys, replaced_by_keys, without_leaf_by_keys}
 use Rattle.index_media.specs.KeyedRow.{KeyedRow, no_more, leaf_in, node_in, bare}
-use Rattle.node_table.specs.Changing.{changed, changed_by}
-use Rattle.table_nodes.specs.NodeView.{NodeView, node_before, tree_at, views}
+use Rattle.node_table.specs.Changing.{changed_row, changed_by}
+use Rattle.table_nodes.specs.NodeView.{NodeView, node_before, tree_at, node_views}
 use Rattle.node_table.specs.declared.change.Change.{Change}
 use Rattle.node_table.specs.declared.change.Change.TheVariants.{Insert, Remove, RemoveRange, Replace}
 use Rattle.table_nodes.specs.declared.node.Root.{Root}
@@ -79,7 +79,7 @@ pruned_fit laws f from to row h =
     let one : count (bare row) ≤ 1 = h.one in
     collapsed_fit f (pruned_by_keys from to row) (record { sound = laws.pruned f from to row h.sound; one = omega (arith, fewer, one) })
 
-changed_fit : ChangesFit → (f : ℕ) (change : Change) (row : KeyedRow) → 3 ≤ f → IsFitRow f row → IsFitRow f (changed f change row)
+changed_fit : ChangesFit → (f : ℕ) (change : Change) (row : KeyedRow) → 3 ≤ f → IsFitRow f row → IsFitRow f (changed_row f change row)
 changed_fit laws f (Insert x) row three h = inserted_fit f x row three h
 changed_fit laws f (Remove x) row three h = elim (cases_Bool (holds x (contents (bare row)))) [
   | inl e ↦ rw e (removed_fit laws f x row h)
@@ -95,7 +95,7 @@ pub all_outside : ChangedNodesStand → ChangesFit → (f : ℕ) (changes : List
     → AreOutside contents lebs (changed_by f changes row)
 all_outside stand laws f [] contents lebs row three fit h = h
 all_outside stand laws f (change ∷ changes) contents lebs row three fit h =
-    all_outside stand laws f changes contents lebs (changed f change row) three (changed_fit laws f change row three fit) (stand f change contents lebs row fit.sound h)
+    all_outside stand laws f changes contents lebs (changed_row f change row) three (changed_fit laws f change row three fit) (stand f change contents lebs row fit.sound h)
 
 pub all_stand : ChangedNodesStand → ChangesFit → (a : VolumeState) (lebs : List ℕ) (f : ℕ) (changes : List Change) (row : KeyedRow) → 3 ≤ f → IsFitRow f row → StandsIn a lebs row
     → StandsIn a lebs (changed_by f changes row)
@@ -115,4 +115,4 @@ one_before key (Some v) = omega arith
 -- the index below a root is one node at most
 pub one_at : (nodes : List TableNode) (root : Option Root) → count (bare (tree_at nodes root)) ≤ 1
 one_at nodes None = omega arith
-one_at nodes (Some root) = one_before root.key (slice_get (views nodes) root.number)
+one_at nodes (Some root) = one_before root.key (slice_get (node_views nodes) root.number)

@@ -4,7 +4,7 @@ use Rattle.index_cache.specs.declared.calls.Staged.{Staged}
 use Rattle.index_commit.specs.Standing.{AreOutside}
 use Rattle.index_media.specs.KeyedRow.{KeyedRow, bare}
 use Rattle.index_tree.specs.Shape.{fits}
-use Rattle.node_table.specs.Changing.{changed}
+use Rattle.node_table.specs.Changing.{changed_row}
 use Rattle.node_table.specs.declared.change.Change.{Change}
 use Rattle.ubi_volume.specs.Volume.{VolumeState}
 use Rattle.ubi_volume.specs.declared.fault.AreaFault.{AreaFault}
@@ -28,4 +28,4 @@ pub record AreChangesMade {T : Type 0} (old new : VolumeState) (after : MountedI
 -- the clause of changes_keep_what_stands of index_commit on one change
 abbrev pub ChangedNodesStand : Type 0
 ChangedNodesStand = (fanout : ℕ) (change : Change) (contents : ℕ → List ℕ) (lebs : List ℕ) (row : KeyedRow) → fits fanout (bare row) ≡ true
-    → AreOutside contents lebs row → AreOutside contents lebs (changed fanout change row)
+    → AreOutside contents lebs row → AreOutside contents lebs (changed_row fanout change row)

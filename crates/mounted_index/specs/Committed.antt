@@ -4,11 +4,11 @@ use Rattle.std.specs.Int.{div_ceil}
 use Rattle.ubifs_base.specs.Geometry.{index_nodes_per_leb}
 use Rattle.ubifs_base.specs.RawOf.{raw_of}
 use Rattle.ubifs_base.specs.declared.raw_geometry.RawGeometry.{RawGeometry}
-use Rattle.index_cache.specs.Paged.{fanout_of, tree_of}
+use Rattle.index_cache.specs.Paged.{fanout_of, keyed_tree_of}
 use Rattle.index_cache.specs.declared.paged.PagedIndex.{PagedIndex}
 use Rattle.index_commit.specs.Answers.{IsIndexNotFailed}
 use Rattle.index_commit.specs.LebTexts.{AreLebsLeft, AreLebsOf}
-use Rattle.index_commit.specs.Lebs.{AreApart}
+use Rattle.index_commit.specs.Lebs.{AreLebsApart}
 use Rattle.index_commit.specs.Ordered.{AreKeysInOrder, IsNotEqualKeys}
 use Rattle.index_commit.specs.Rooms.{all_rooms, last_head, rooms_of}
 use Rattle.index_commit.specs.Written.{AreLebsSettled, IsHeadIn}
@@ -56,7 +56,7 @@ pub record AreNodesWritten {T : Type 0} (geo : RawGeometry) (old new : VolumeSta
 
 -- an index has these nodes once it is written: it is on the volume alone, from the root on, or empty
 abbrev pub HasNodesFrom : ℕ → Option Branch → IndexNodes → Type 0
-HasNodesFrom fanout None nodes = (index : PagedIndex) × (nodes ≡ InMemory index) × (tree_of index ≡ no_more) × (fanout_of index ≡ fanout)
+HasNodesFrom fanout None nodes = (index : PagedIndex) × (nodes ≡ InMemory index) × (keyed_tree_of index ≡ no_more) × (fanout_of index ≡ fanout)
 HasNodesFrom fanout (Some root) nodes = nodes ≡ OnMedium root
 
 -- how many nodes a commit has to write: the dirty ones below the root, each as often as links lead to it
@@ -95,7 +95,7 @@ IsShortOf need given (Err (Volume count)) = need ≤ given
 pub record IsBeside (state : VolumeState) (lebs kept : List ℕ) (index : MountedIndex) (row : KeyedRow) : Type 0 where
   pub shown : Shows state index row
   pub stands : StandsIn state kept row
-  pub apart : AreApart kept lebs
+  pub apart : AreLebsApart kept lebs
 
 -- A commit of an index that showed this row. It shows the same shape and leaves, with places for nodes that were dirty. If memory or LEBs
 -- are wanting, the volume, the number, and what is shown or staged are as before. LEBs are wanting exactly if they don't take the dirty

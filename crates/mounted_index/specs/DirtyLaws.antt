@@ -11,9 +11,9 @@ use Rattle.index_media.specs.InsertionSound.{fit_node}
 use Rattle.index_media.specs.KeyedRow.{KeyedRow, no_more, leaf_in, node_in, all_clean, bare}
 use Rattle.index_media.specs.PlacedRow.{Stretch}
 use Rattle.table_nodes.specs.BeyondLaws.{dirty_row}
-use Rattle.node_table.specs.Clean.{are_clean_below, is_clean_below}
+use Rattle.table_nodes.specs.Clean.{are_clean_below, is_clean_below}
 use Rattle.node_table.specs.Dirty.{dirty_among, dirty_behind, dirty_below, dirty_lists, dirty_node}
-use Rattle.table_nodes.specs.NodeView.{NodeView, IsRootIn, node_before, row_of, stretch_at, tree_at, view_of, views, views_behind}
+use Rattle.table_nodes.specs.NodeView.{NodeView, IsRootIn, node_before, row_of, stretch_at, tree_at, node_view_of, node_views, views_behind}
 use Rattle.table_nodes.specs.Sound.{AreSoundViews, IsSoundView}
 use Rattle.table_nodes.specs.declared.link.Link.{Link}
 use Rattle.table_nodes.specs.declared.link.Link.TheVariants.{ToLeaf, ToNode}
@@ -25,10 +25,10 @@ use Rattle.index_cache.specs.declared.paged.PagedIndex.{PagedIndex}
 use Rattle.ubi_volume.specs.Volume.{VolumeState}
 use Rattle.mounted_index.specs.Committed.{dirty_nodes_in, dirty_one, nodes_to_write}
 use Rattle.mounted_index.specs.Shown.{IsRowOfNodes, Shows}
-use Rattle.mounted_index.specs.ShownLaws.{all_is_clean}
 use Rattle.mounted_index.specs.declared.mounted.IndexNodes.{IndexNodes}
 use Rattle.mounted_index.specs.declared.mounted.IndexNodes.TheVariants.{OnMedium, InMemory}
 use Rattle.mounted_index.specs.declared.mounted.MountedIndex.{MountedIndex}
+use Rattle.node_cache.specs.CleanRows.{all_is_clean}
 
 -- a row in which each node has a place has no dirty one
 clean_none : (row : KeyedRow) → is_clean_row row ≡ true → dirty_nodes_in row ≡ 0
@@ -100,13 +100,13 @@ get_last (x ∷ xs) v = get_last xs v
 
 behind_stays : (seen : List NodeView) (nodes : List TableNode) (i : ℕ) (v : NodeView) → slice_get seen i ≡ Some v → slice_get (views_behind seen nodes) i ≡ Some v
 behind_stays seen [] i v h = h
-behind_stays seen (n ∷ nodes) i v h = behind_stays (seen ++ view_of seen n ∷ []) nodes i v (get_left seen (view_of seen n ∷ []) i v h)
+behind_stays seen (n ∷ nodes) i v h = behind_stays (seen ++ node_view_of seen n ∷ []) nodes i v (get_left seen (node_view_of seen n ∷ []) i v h)
 
 behind_long : (seen : List NodeView) (nodes : List TableNode) → length (views_behind seen nodes) ≡ length seen + length nodes
 behind_long seen [] = omega arith
 behind_long seen (n ∷ nodes) =
-    let more = behind_long (seen ++ view_of seen n ∷ []) nodes in
-    let one = length-append seen (view_of seen n ∷ []) in
+    let more = behind_long (seen ++ node_view_of seen n ∷ []) nodes in
+    let one = length-append seen (node_view_of seen n ∷ []) in
     omega (arith, more, one)
 
 -- each node that is seen has children that fit, and is dirty, or clean with all below it
@@ -117,7 +117,7 @@ behind_counted : (f : ℕ) (known : List (List ℕ)) (seen : List NodeView) (nod
     → AreCounted (dirty_behind known nodes) (views_behind seen nodes)
 behind_counted f known seen [] long counted good = counted
 behind_counted f known seen (n ∷ nodes) long counted good =
-    let v = view_of seen n in
+    let v = node_view_of seen n in
     let below = dirty_among known n.links.items in
     let own = dirty_node n.place (length known) below in
     let here = good (length seen) v (behind_stays (seen ++ v ∷ []) nodes (length seen) v (get_last seen v)) in
@@ -155,11 +155,11 @@ counted_below index None there = refl
 counted_below index (Some root) there =
     let nodes = index.table.nodes.items in
     let f = fanout_of index in
-    let sound : AreSoundViews f (views nodes) = index.table.sound in
-    let good : AreFitAndClean f (views nodes) = λ i v is. ((fit_node f (bare v.children) done (sound_at f (views nodes) i v sound is).0).children, clean_at (views nodes) i v index.table.clean is) in
+    let sound : AreSoundViews f (node_views nodes) = index.table.sound in
+    let good : AreFitAndClean f (node_views nodes) = λ i v is. ((fit_node f (bare v.children) done (sound_at f (node_views nodes) i v sound is).0).children, clean_at (node_views nodes) i v index.table.clean is) in
     let all = behind_counted f [] [] nodes refl none_known good in
     let long = behind_long [] nodes in
-    elim (slice_get_cases (views nodes) root.number).1 [
+    elim (slice_get_cases (node_views nodes) root.number).1 [
       | inr past ↦ absurd (omega (arith, past.0, long, there))
       | inl found ↦
           let own = all root.number found.0 found.2 in

@@ -1,7 +1,7 @@
 -- Which index is shown, over a volume and from memory, and where it stands.
 use Rattle.std.specs.Prelude.{◌≡◌, ◌<◌, ℕ, Bool, true, false, List}
 use Rattle.commit_steps.specs.UnderWay.{AreWithinLebs}
-use Rattle.index_cache.specs.Paged.{fanout_of, tree_of}
+use Rattle.index_cache.specs.Paged.{fanout_of, keyed_tree_of}
 use Rattle.index_cache.specs.declared.calls.Staged.{Staged}
 use Rattle.index_commit.specs.Lebs.{IsGiven}
 use Rattle.index_commit.specs.Standing.{AreOutside}
@@ -19,7 +19,7 @@ use Rattle.mounted_index.specs.declared.mounted.MountedIndex.{MountedIndex}
 -- a row has these nodes: all of them stand on the volume from a root on, clean, or they are seen in memory
 abbrev pub IsRowOfNodes : VolumeState → ℕ → KeyedRow → IndexNodes → Type 0
 IsRowOfNodes state fanout row (OnMedium root) = (placed : PlacedRow) × (row ≡ all_clean placed) × IsIndexOn state fanout root placed
-IsRowOfNodes state fanout row (InMemory index) = (row ≡ tree_of index) × (fanout_of index ≡ fanout)
+IsRowOfNodes state fanout row (InMemory index) = (row ≡ keyed_tree_of index) × (fanout_of index ≡ fanout)
 
 -- over a volume in this state the index has this row, whatever look-ups keep of it: that may be of what stood there before
 abbrev pub IsTakenUp : VolumeState → MountedIndex → KeyedRow → Type 0

@@ -16,16 +16,7 @@ use Rattle.mounted_index.specs.Shown.{IsRowOfNodes, IsTakenUp, StandsIn}
 use Rattle.mounted_index.specs.declared.mounted.IndexNodes.{IndexNodes}
 use Rattle.mounted_index.specs.declared.mounted.IndexNodes.TheVariants.{OnMedium, InMemory}
 use Rattle.mounted_index.specs.declared.mounted.MountedIndex.{MountedIndex}
-
-pub all_is_clean : (row : PlacedRow) → is_clean_row (all_clean row) ≡ true
-all_is_clean ended = refl
-all_is_clean (leaf_at x rest) = all_is_clean rest
-all_is_clean (node_at branch children rest) = rw (all_is_clean children, all_is_clean rest) refl
-
-pub placed_again : (row : PlacedRow) → placed_of (all_clean row) ≡ row
-placed_again ended = refl
-placed_again (leaf_at x rest) = ap (leaf_at x) (placed_again rest)
-placed_again (node_at branch children rest) = rw (placed_again children, placed_again rest) refl
+use Rattle.node_cache.specs.CleanRows.{all_is_clean, placed_again}
 
 nodes_beside : DependsOnItsLebs → (old new : VolumeState) (fanout : ℕ) (lebs : List ℕ) (row : KeyedRow) (nodes : IndexNodes) → SameShape old new
     → ((k : ℕ) → IsGiven lebs k → new.holds k ≡ old.holds k) → StandsIn old lebs row → IsRowOfNodes old fanout row nodes → IsRowOfNodes new fanout row nodes

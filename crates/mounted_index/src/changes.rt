@@ -2,7 +2,7 @@
 
 ghost use Rattle.std.specs.Prelude.{◌≡◌, ℕ, false, List, OnErr, OnOk};
 ghost use Rattle.index_media.specs.KeyedRow.{KeyedRow};
-ghost use Rattle.node_cache.specs.Loaded.{IsRead};
+ghost use Rattle.node_cache.specs.Loaded.{IsReadOnlyCall};
 ghost use Rattle.node_table.specs.Changing.{AreChanges, changed_by};
 ghost use Rattle.mounted_index.specs.Changed.{AreChangesMade, AreChangesStaged};
 ghost use Rattle.mounted_index.specs.Running.{IsCommitRunning, KeepsRunning};
@@ -36,7 +36,7 @@ impl MountedIndex {
         ensures staged { (row : KeyedRow) → Shows (V.state volume.old) self.old row
             → AreChangesStaged (V.state volume.old) (V.state volume.new) self.new row (changed_by self.old.geometry.fanout changes.now row) result }
         ensures running { KeepsRunning (V.state volume.old) (V.state volume.new) self.old self.new }
-        ensures reads { IsRead (V.state volume.old) (V.state volume.new) result }
+        ensures reads { IsReadOnlyCall (V.state volume.old) (V.state volume.new) result }
         ensures geometry { self.new.geometry ≡ self.old.geometry }
     {
         an_insertion_keeps_what_nodes_are();
@@ -85,7 +85,7 @@ impl MountedIndex {
             → AreChangesMade (V.state volume.old) (V.state volume.new) self.new row (changed_by self.old.geometry.fanout changes.now row) result }
         ensures running { (kept given : List ℕ) (begun row : KeyedRow) → IsCommitRunning (V.state volume.old) kept given begun self.old row
             → OnOk result (IsCommitRunning (V.state volume.new) kept given begun self.new (changed_by self.old.geometry.fanout changes.now row)) × OnErr result (IsCommitRunning (V.state volume.new) kept given begun self.new row) }
-        ensures reads { IsRead (V.state volume.old) (V.state volume.new) result }
+        ensures reads { IsReadOnlyCall (V.state volume.old) (V.state volume.new) result }
         ensures geometry { self.new.geometry ≡ self.old.geometry }
     {
         let staged = self.stage(alloc, volume, changes)?;
@@ -99,7 +99,7 @@ impl MountedIndex {
         ensures shown { (row : KeyedRow) → Shows (V.state volume.old) self.old row → Shows (V.state volume.new) self.new row }
         ensures running { KeepsRunning (V.state volume.old) (V.state volume.new) self.old self.new }
         ensures loaded { OnOk result (on_volume_alone self.new ≡ false) }
-        ensures reads { IsRead (V.state volume.old) (V.state volume.new) result }
+        ensures reads { IsReadOnlyCall (V.state volume.old) (V.state volume.new) result }
         ensures geometry { self.new.geometry ≡ self.old.geometry }
     {
         kept_nodes_stay();

@@ -6,7 +6,7 @@ ghost use Rattle.ubifs_base.specs.Key.{IsKey};
 ghost use Rattle.ubifs_base.specs.RawOf.{raw_of};
 ghost use Rattle.ubi_volume.specs.Geometry.{IsGeometryOf};
 ghost use Rattle.commit_steps.specs.UnderWay.{AreSettledLebs, WorksBeside};
-ghost use Rattle.index_commit.specs.Lebs.{AreApart, AreGivable, IsGiven};
+ghost use Rattle.index_commit.specs.Lebs.{AreLebsApart, AreGivable, IsGiven};
 ghost use Rattle.index_media.specs.KeyedRow.{KeyedRow};
 ghost use Rattle.index_media.specs.Stored.{IsStoredIndex};
 ghost use Rattle.media_sys.specs.declared.branch.Branch.{Branch as ABranch};
@@ -82,11 +82,11 @@ pub fn put_commit_and_find<V: Volume>(
     sqnum: &mut u64,
 ) -> Result<Option<Leaf>, IndexFault>
     requires geometry { IsGeometryOf (raw_of geometry.now) (V.state volume.old) }
-    requires index { (row : PlacedRow) × IsIndexOn (V.state volume.old) geometry.now.fanout root.now row × AreApart (lebs_of row) lebs.now }
+    requires index { (row : PlacedRow) × IsIndexOn (V.state volume.old) geometry.now.fanout root.now row × AreLebsApart (lebs_of row) lebs.now }
     requires lebs { AreGivable (V.state volume.old).leb_cnt lebs.now }
     requires key { IsKey leaf.key }
     requires number { sqnum.old < 2 ^ 63 }
-    ensures found { (row : PlacedRow) → IsIndexOn (V.state volume.old) geometry.now.fanout root.now row → AreApart (lebs_of row) lebs.now
+    ensures found { (row : PlacedRow) → IsIndexOn (V.state volume.old) geometry.now.fanout root.now row → AreLebsApart (lebs_of row) lebs.now
         → IfOk result (λ found. found ≡ slice_get (of_rank (leaf_rank leaf) (placed leaf (contents (plain row)))) 0) }
 {
     an_insertion_goes_by_the_keys_of_branches();
@@ -109,11 +109,11 @@ fn take_steps<V: Volume>(
     sqnum: &mut u64,
 ) -> Result<(), IndexFault>
     requires volume { IsGeometryOf (raw_of index.old.geometry) (V.state volume.old) × AreGivable (V.state volume.old).leb_cnt lebs.now }
-    requires running { (row : KeyedRow) × (begun : KeyedRow) × (kept : List ℕ) × (given : List ℕ) × IsCommitRunning (V.state volume.old) kept given begun index.old row × AreApart (given ++ kept) lebs.now }
+    requires running { (row : KeyedRow) × (begun : KeyedRow) × (kept : List ℕ) × (given : List ℕ) × IsCommitRunning (V.state volume.old) kept given begun index.old row × AreLebsApart (given ++ kept) lebs.now }
     requires number { sqnum.old + index_nodes_per_leb (raw_of index.old.geometry) * length lebs.now < 2 ^ 63 }
-    ensures taken { (row begun : KeyedRow) (kept given : List ℕ) → IsCommitRunning (V.state volume.old) kept given begun index.old row → AreApart (given ++ kept) lebs.now
+    ensures taken { (row begun : KeyedRow) (kept given : List ℕ) → IsCommitRunning (V.state volume.old) kept given begun index.old row → AreLebsApart (given ++ kept) lebs.now
         → OnOk result (AreStepsTaken (V.state volume.new) lebs.now kept given begun row index.new) }
-    ensures beside { (others : List ℕ) → AreApart others lebs.now → WorksBeside (V.state volume.old) (V.state volume.new) others }
+    ensures beside { (others : List ℕ) → AreLebsApart others lebs.now → WorksBeside (V.state volume.old) (V.state volume.new) others }
     ensures shape { SameShape (V.state volume.old) (V.state volume.new) }
     ensures geometry { index.new.geometry ≡ index.old.geometry }
     ensures number { OnOk result (sqnum.new ≤ sqnum.old + index_nodes_per_leb (raw_of index.old.geometry) * length lebs.now) }
@@ -140,12 +140,12 @@ fn put_between_steps<V: Volume>(
     sqnum: &mut u64,
 ) -> Result<Option<Leaf>, IndexFault>
     requires volume { IsGeometryOf (raw_of index.old.geometry) (V.state volume.old) × AreGivable (V.state volume.old).leb_cnt (first ∷ rest.now) }
-    requires running { (row : KeyedRow) × (begun : KeyedRow) × (kept : List ℕ) × (given : List ℕ) × IsCommitRunning (V.state volume.old) kept given begun index.old row × AreApart (given ++ kept) (first ∷ rest.now) }
+    requires running { (row : KeyedRow) × (begun : KeyedRow) × (kept : List ℕ) × (given : List ℕ) × IsCommitRunning (V.state volume.old) kept given begun index.old row × AreLebsApart (given ++ kept) (first ∷ rest.now) }
     requires key { IsKey leaf.key }
     requires number { sqnum.old + index_nodes_per_leb (raw_of index.old.geometry) * length (first ∷ rest.now) < 2 ^ 63 }
-    ensures put { (row begun : KeyedRow) (kept given : List ℕ) → IsCommitRunning (V.state volume.old) kept given begun index.old row → AreApart (given ++ kept) (first ∷ rest.now)
+    ensures put { (row begun : KeyedRow) (kept given : List ℕ) → IsCommitRunning (V.state volume.old) kept given begun index.old row → AreLebsApart (given ++ kept) (first ∷ rest.now)
         → IfOk result (λ found. (put : IsPutMeanwhile (first ∷ rest.now) given row leaf found) × IsCommitRunning (V.state volume.new) kept put.since begun index.new put.now) }
-    ensures beside { (others : List ℕ) → AreApart others (first ∷ rest.now) → WorksBeside (V.state volume.old) (V.state volume.new) others }
+    ensures beside { (others : List ℕ) → AreLebsApart others (first ∷ rest.now) → WorksBeside (V.state volume.old) (V.state volume.new) others }
 {
     an_insertion_goes_by_the_keys_of_branches();
     places_are_kept();
@@ -180,12 +180,12 @@ pub fn commit_beside_put<V: Volume>(
     sqnum: &mut u64,
 ) -> Result<CommitBesidePut, IndexFault>
     requires volume { IsGeometryOf (raw_of index.old.geometry) (V.state volume.old) × AreGivable (V.state volume.old).leb_cnt (first ∷ rest.now) }
-    requires shown { (row : KeyedRow) × (kept : List ℕ) × Shows (V.state volume.old) index.old row × StandsIn (V.state volume.old) kept row × AreSettledLebs (V.state volume.old) kept × AreApart kept (first ∷ rest.now) }
+    requires shown { (row : KeyedRow) × (kept : List ℕ) × Shows (V.state volume.old) index.old row × StandsIn (V.state volume.old) kept row × AreSettledLebs (V.state volume.old) kept × AreLebsApart kept (first ∷ rest.now) }
     requires key { IsKey leaf.key }
     requires number { sqnum.old + index_nodes_per_leb (raw_of index.old.geometry) * length (first ∷ rest.now) < 2 ^ 63 }
-    ensures committed { (row : KeyedRow) (kept : List ℕ) → Shows (V.state volume.old) index.old row → StandsIn (V.state volume.old) kept row → AreSettledLebs (V.state volume.old) kept → AreApart kept (first ∷ rest.now)
+    ensures committed { (row : KeyedRow) (kept : List ℕ) → Shows (V.state volume.old) index.old row → StandsIn (V.state volume.old) kept row → AreSettledLebs (V.state volume.old) kept → AreLebsApart kept (first ∷ rest.now)
         → IfOk result (λ done. (put : IsPutMeanwhile (first ∷ rest.now) [] row leaf done.found) × IsCommitEnded (V.state volume.new) kept put.since row put.now index.new done.root) }
-    ensures old_stays { (kept : List ℕ) (fanout : ℕ) (root : ABranch) (row : PlacedRow) → AreSettledLebs (V.state volume.old) kept → AreApart kept (first ∷ rest.now) → All (IsGiven kept) (lebs_of row)
+    ensures old_stays { (kept : List ℕ) (fanout : ℕ) (root : ABranch) (row : PlacedRow) → AreSettledLebs (V.state volume.old) kept → AreLebsApart kept (first ∷ rest.now) → All (IsGiven kept) (lebs_of row)
         → IsStoredIndex (V.state volume.old).holds fanout root row → Leaves (V.state volume.old) (V.state volume.new) (λ c. IsStoredIndex c fanout root row) }
 {
     an_index_depends_on_its_lebs_alone();

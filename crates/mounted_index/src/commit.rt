@@ -9,9 +9,9 @@ ghost use Rattle.node_table.specs.Dirty.{dirty_below};
 ghost use Rattle.node_table.specs.Placing.{KeepsPlaces};
 ghost use Rattle.ubi_volume.specs.Geometry.{IsGeometryOf};
 ghost use Rattle.ubi_volume.specs.Volume.{Keeps};
-ghost use Rattle.index_cache.specs.Paged.{fanout_of, tree_of};
+ghost use Rattle.index_cache.specs.Paged.{fanout_of, keyed_tree_of};
 ghost use Rattle.index_commit.specs.Answers.{IsIndexAnswered, IsIndexNotFailed};
-ghost use Rattle.index_commit.specs.Lebs.{AreApart, AreGivable};
+ghost use Rattle.index_commit.specs.Lebs.{AreLebsApart, AreGivable};
 ghost use Rattle.index_commit.specs.Ordered.{AreKeysInOrder, IsNotEqualKeys};
 ghost use Rattle.index_commit.specs.Written.{KeepsOtherIndexes, WorksInLebs};
 ghost use Rattle.mounted_index.specs.Committed.{AreNodesWritten, HasNodesFrom, IsBeside, IsCommit, IsShortOf, IsWrittenAt, OnWant, nodes_to_write};
@@ -102,15 +102,15 @@ fn write_seen<V: Volume>(
     requires geometry { IsGeometryOf (raw_of geometry.now) (V.state volume.old) }
     requires fanout { fanout_of index.old ≡ geometry.now.fanout }
     requires lebs { AreGivable (V.state volume.old).leb_cnt lebs.now }
-    requires stands { (kept : List ℕ) × StandsIn (V.state volume.old) kept (tree_of index.old) × AreApart kept lebs.now }
+    requires stands { (kept : List ℕ) × StandsIn (V.state volume.old) kept (keyed_tree_of index.old) × AreLebsApart kept lebs.now }
     requires number { sqnum.old < 2 ^ 63 }
-    ensures at { IfOk result (IsWrittenAt (V.state volume.new) (raw_of geometry.now) lebs.now (sqnum.new - sqnum.old) (tree_of index.old) (tree_of index.new)) }
-    ensures tree { KeepsPlaces (tree_of index.old) (tree_of index.new) }
-    ensures want { OnWant (Keeps (V.state volume.old) (V.state volume.new) × (tree_of index.new ≡ tree_of index.old) × (sqnum.new ≡ sqnum.old)) result }
+    ensures at { IfOk result (IsWrittenAt (V.state volume.new) (raw_of geometry.now) lebs.now (sqnum.new - sqnum.old) (keyed_tree_of index.old) (keyed_tree_of index.new)) }
+    ensures tree { KeepsPlaces (keyed_tree_of index.old) (keyed_tree_of index.new) }
+    ensures want { OnWant (Keeps (V.state volume.old) (V.state volume.new) × (keyed_tree_of index.new ≡ keyed_tree_of index.old) × (sqnum.new ≡ sqnum.old)) result }
     ensures same { OnWant ((index.new.table.nodes.items ≡ index.old.table.nodes.items) × (index.new.root ≡ index.old.root)) result }
-    ensures stands { (kept : List ℕ) → StandsIn (V.state volume.old) kept (tree_of index.old) → AreApart kept lebs.now → IsIndexNotFailed result → StandsIn (V.state volume.new) (lebs.now ++ kept) (tree_of index.new) }
+    ensures stands { (kept : List ℕ) → StandsIn (V.state volume.old) kept (keyed_tree_of index.old) → AreLebsApart kept lebs.now → IsIndexNotFailed result → StandsIn (V.state volume.new) (lebs.now ++ kept) (keyed_tree_of index.new) }
     ensures full { IsShortOf (div_ceil (length (dirty_below index.old.table.nodes.items index.old.root)) (index_nodes_per_leb (raw_of geometry.now))) (length lebs.now) result }
-    ensures order { AreKeysInOrder (tree_of index.old) → IsNotEqualKeys result }
+    ensures order { AreKeysInOrder (keyed_tree_of index.old) → IsNotEqualKeys result }
     ensures works { WorksInLebs (V.state volume.old) (V.state volume.new) lebs.now }
     ensures nodes { AreNodesWritten (raw_of geometry.now) (V.state volume.old) (V.state volume.new) lebs.now sqnum.old sqnum.new result }
     ensures old_stays { KeepsOtherIndexes (V.state volume.old) (V.state volume.new) lebs.now }

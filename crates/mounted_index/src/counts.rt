@@ -3,7 +3,7 @@
 ghost use Rattle.std.specs.Prelude.{◌≡◌, ◌+◌, IfOk, if◌then◌else◌, nat_le};
 ghost use Rattle.index_media.specs.KeyedRow.{KeyedRow, bare};
 ghost use Rattle.index_media.specs.PlacedRow.{PlacedRow, branches_of, ended, node_at, plain};
-ghost use Rattle.node_cache.specs.Loaded.{IsIndexOn, IsRead, IsRowOn};
+ghost use Rattle.node_cache.specs.Loaded.{IsIndexOn, IsReadOnlyCall, IsRowOn};
 ghost use Rattle.mounted_index.specs.Shown.{KeepsShown, Shows};
 ghost use Rattle.mounted_index.specs.Sizes.{IsSizeOf};
 
@@ -65,7 +65,7 @@ fn size_below<V: Volume>(
     requires row { (row : PlacedRow) × IsRowOn (V.state volume.old) fanout (level + 1) (node_at branch.now row ended) }
     ensures counted { (row : PlacedRow) → IsRowOn (V.state volume.old) fanout (level + 1) (node_at branch.now row ended)
         → IfOk result (λ size. IsSizeOf fanout (plain (node_at branch.now row ended)) size) }
-    ensures reads { IsRead (V.state volume.old) (V.state volume.new) result }
+    ensures reads { IsReadOnlyCall (V.state volume.old) (V.state volume.new) result }
 {
     let node = read_node(alloc, volume, branch)?;
     let branches = node.branches.as_slice();
@@ -86,7 +86,7 @@ fn size_among<V: Volume>(
     requires row { (row : PlacedRow) × (branches_of row ≡ branches.now) × IsRowOn (V.state volume.old) fanout levels row }
     ensures counted { (row : PlacedRow) → branches_of row ≡ branches.now → IsRowOn (V.state volume.old) fanout levels row
         → IfOk result (λ size. IsSizeOf fanout (plain row) size) }
-    ensures reads { IsRead (V.state volume.old) (V.state volume.new) result }
+    ensures reads { IsReadOnlyCall (V.state volume.old) (V.state volume.new) result }
 {
     if levels == 0 {
         return Ok(IndexSize {
@@ -117,22 +117,22 @@ fn size_from<V: Volume>(
 ) -> Result<IndexSize, AreaFault>
     requires index { (placed : PlacedRow) × IsIndexOn (V.state volume.old) fanout root.now placed }
     ensures counted { (placed : PlacedRow) → IsIndexOn (V.state volume.old) fanout root.now placed → IfOk result (λ size. IsSizeOf fanout (plain placed) size) }
-    ensures reads { IsRead (V.state volume.old) (V.state volume.new) result }
+    ensures reads { IsReadOnlyCall (V.state volume.old) (V.state volume.new) result }
 {
     let node = read_node(alloc, volume, root)?;
     size_below(alloc, volume, root, node.level, fanout)
 }
 
 impl MountedIndex {
-    /// How many nodes the index has, and what it weighs. If it is on the volume alone, this reads all its nodes, of which those of one path
-    /// are in memory at a time. The volume is as it was.
+    /// How many nodes the index has, and what it weighs. It looks at all nodes: if the index is on the volume alone, it reads them, and
+    /// those of one path are in memory at a time. The volume is as it was.
     ///
     /// `Memory` and `Volume` are the faults. A size past 64 bits is answered as want of memory.
     pub fn size<V: Volume>(&mut self, alloc: Global, volume: &mut V) -> Result<IndexSize, AreaFault>
         requires shown { (row : KeyedRow) × Shows (V.state volume.old) self.old row }
         ensures size { (row : KeyedRow) → Shows (V.state volume.old) self.old row
             → IfOk result (λ size. IsSizeOf self.old.geometry.fanout (bare row) size) }
-        ensures reads { IsRead (V.state volume.old) (V.state volume.new) result }
+        ensures reads { IsReadOnlyCall (V.state volume.old) (V.state volume.new) result }
         ensures kept { KeepsShown (V.state volume.old) (V.state volume.new) self.old self.new }
         ensures nodes { self.new.nodes ≡ self.old.nodes }
     {
@@ -143,10 +143,13 @@ impl MountedIndex {
                 let size = size_from(alloc, volume, root, self.geometry.fanout)?;
                 Ok(size)
             }
-            IndexNodes::InMemory(index) => Ok(IndexSize {
-                nodes: index.nodes(),
-                weight: index.weight(),
-            }),
+            IndexNodes::InMemory(index) => {
+                let size = index.size()?;
+                Ok(IndexSize {
+                    nodes: size.nodes,
+                    weight: size.weight,
+                })
+            }
         }
     }
 }

@@ -7,7 +7,7 @@ ghost use Rattle.index_tree.specs.Order.{key_rank, of_rank, first_after};
 ghost use Rattle.index_tree.specs.RangeRemoval.{within_range};
 ghost use Rattle.index_tree.specs.Removal.{holds};
 ghost use Rattle.index_tree.specs.Shape.{contents};
-ghost use Rattle.node_cache.specs.Loaded.{IsRead};
+ghost use Rattle.node_cache.specs.Loaded.{IsReadOnlyCall};
 ghost use Rattle.mounted_index.specs.Shown.{KeepsShown, Shows};
 
 use crate::mounted::{IndexNodes, MountedIndex};
@@ -32,7 +32,7 @@ impl MountedIndex {
         requires shown { (row : KeyedRow) × Shows (V.state volume.old) self.old row }
         ensures found { (row : KeyedRow) → Shows (V.state volume.old) self.old row
             → IfOk result (λ found. found ≡ slice_get (of_rank (key_rank key.now) (contents (bare row))) nth) }
-        ensures reads { IsRead (V.state volume.old) (V.state volume.new) result }
+        ensures reads { IsReadOnlyCall (V.state volume.old) (V.state volume.new) result }
         ensures kept { KeepsShown (V.state volume.old) (V.state volume.new) self.old self.new }
         ensures nodes { self.new.nodes ≡ self.old.nodes }
     {
@@ -55,7 +55,7 @@ impl MountedIndex {
         requires shown { (row : KeyedRow) × Shows (V.state volume.old) self.old row }
         ensures found { (row : KeyedRow) → Shows (V.state volume.old) self.old row
             → IfOk result (λ found. found ≡ first_after (key_rank key.now) (contents (bare row))) }
-        ensures reads { IsRead (V.state volume.old) (V.state volume.new) result }
+        ensures reads { IsReadOnlyCall (V.state volume.old) (V.state volume.new) result }
         ensures kept { KeepsShown (V.state volume.old) (V.state volume.new) self.old self.new }
         ensures nodes { self.new.nodes ≡ self.old.nodes }
     {
@@ -78,7 +78,7 @@ impl MountedIndex {
     ) -> Result<Option<Leaf>, AreaFault>
         requires shown { (row : KeyedRow) × Shows (V.state volume.old) self.old row }
         ensures found { (row : KeyedRow) → Shows (V.state volume.old) self.old row → IfOk result (λ found. found ≡ last_block ino (contents (bare row))) }
-        ensures reads { IsRead (V.state volume.old) (V.state volume.new) result }
+        ensures reads { IsReadOnlyCall (V.state volume.old) (V.state volume.new) result }
         ensures kept { KeepsShown (V.state volume.old) (V.state volume.new) self.old self.new }
         ensures nodes { self.new.nodes ≡ self.old.nodes }
     {
@@ -100,7 +100,7 @@ impl MountedIndex {
     ) -> Result<bool, AreaFault>
         requires shown { (row : KeyedRow) × Shows (V.state volume.old) self.old row }
         ensures found { (row : KeyedRow) → Shows (V.state volume.old) self.old row → IfOk result (λ found. found ≡ holds leaf.now (contents (bare row))) }
-        ensures reads { IsRead (V.state volume.old) (V.state volume.new) result }
+        ensures reads { IsReadOnlyCall (V.state volume.old) (V.state volume.new) result }
         ensures kept { KeepsShown (V.state volume.old) (V.state volume.new) self.old self.new }
         ensures nodes { self.new.nodes ≡ self.old.nodes }
     {
@@ -125,7 +125,7 @@ impl MountedIndex {
         requires shown { (row : KeyedRow) × Shows (V.state volume.old) self.old row }
         ensures leaves { (row : KeyedRow) → Shows (V.state volume.old) self.old row
             → IfOk result (λ leaves. leaves.items ≡ within_range (key_rank from.now) (key_rank to.now) (contents (bare row))) }
-        ensures reads { IsRead (V.state volume.old) (V.state volume.new) result }
+        ensures reads { IsReadOnlyCall (V.state volume.old) (V.state volume.new) result }
         ensures kept { KeepsShown (V.state volume.old) (V.state volume.new) self.old self.new }
         ensures nodes { self.new.nodes ≡ self.old.nodes }
     {
@@ -150,7 +150,7 @@ impl MountedIndex {
         requires shown { (row : KeyedRow) × Shows (V.state volume.old) self.old row }
         ensures leaves { (row : KeyedRow) → Shows (V.state volume.old) self.old row
             → IfOk result (λ leaves. leaves.items ≡ filter (λ x. x.lnum == lnum) (contents (bare row))) }
-        ensures reads { IsRead (V.state volume.old) (V.state volume.new) result }
+        ensures reads { IsReadOnlyCall (V.state volume.old) (V.state volume.new) result }
         ensures kept { KeepsShown (V.state volume.old) (V.state volume.new) self.old self.new }
         ensures nodes { self.new.nodes ≡ self.old.nodes }
     {

@@ -12,7 +12,7 @@ use Rattle.index_media.specs.Stored.{AreStored}
 use Rattle.media_sys.specs.declared.branch.Branch.{Branch}
 use Rattle.ubi_volume.specs.Volume.{VolumeState}
 use Rattle.node_cache.specs.Loaded.{IsRowOn}
-use Rattle.node_cache.specs.RowsOn.{clean_bounded, said_by}
+use Rattle.node_cache.specs.RowsOn.{clean_bounded, said_is_node}
 use Rattle.node_cache.specs.LastBlockLaws.{Ascend, keyed_ascend}
 
 are_keys : (media : ℕ → List ℕ) (levels : ℕ) (row : PlacedRow) → AreStored media levels row → AllByRecursion (λ (branch : Branch). IsKey branch.key) (branches_of row) → AreKeys (all_clean row)
@@ -20,7 +20,7 @@ unfolding AreStored
 are_keys media levels ended s k = tt
 are_keys media levels (leaf_at x rest) s k = (k.0, are_keys media levels rest s.1 k.1)
 are_keys media levels (node_at b c rest) s k =
-    let own = said_by media b (record { level = levels - 1; branches = branches_of c }) s.1 in
+    let own = said_is_node media b (record { level = levels - 1; branches = branches_of c }) s.1 in
     (k.0, are_keys media (levels - 1) c s.2 own.keys, are_keys media levels rest s.3 k.1)
 
 pub row_ascends : (s : VolumeState) (fanout levels : ℕ) (row : PlacedRow) → IsRowOn s fanout levels row → Ascend 0 (contents (plain row))

@@ -4,3 +4,6 @@ pub mod Kept
 pub mod Branches
 pub mod FirstAt
 pub mod LastBlockLaws
+pub mod CleanRows
+pub mod OnVolume
+pub mod OnVolumeLaws

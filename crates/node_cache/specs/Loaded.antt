@@ -12,7 +12,7 @@ use Rattle.ubi_volume.specs.Volume.{VolumeState, Keeps, SameShape}
 use Rattle.ubi_volume.specs.declared.fault.AreaFault.{AreaFault}
 
 -- a call that only reads a volume
-pub record IsRead {T : Type 0} (old new : VolumeState) (result : Result T AreaFault) : Type 0 where
+pub record IsReadOnlyCall {T : Type 0} (old new : VolumeState) (result : Result T AreaFault) : Type 0 where
   pub keeps : Keeps old new
   pub shape : SameShape old new
   pub cause : HasAreaCause old.faults new.faults result

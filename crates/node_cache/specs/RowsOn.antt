@@ -51,8 +51,8 @@ loose low least most (node_at b c rest) l h = (
 )
 
 -- ---- nodes
-pub said_by : (media : ℕ → List ℕ) (branch : Branch) (said : Index) → IsIndexNodeAt media branch said → IsIdxNode said
-said_by media branch said h = h.is.is
+pub said_is_node : (media : ℕ → List ℕ) (branch : Branch) (said : Index) → IsIndexNodeAt media branch said → IsIdxNode said
+said_is_node media branch said h = h.is.is
 
 pub node_moved : (old new : ℕ → List ℕ) (branch : Branch) (said : Index) → new branch.lnum ≡ old branch.lnum → IsIndexNodeAt old branch said → IsIndexNodeAt new branch said
 node_moved old new branch said e h =
@@ -186,7 +186,7 @@ below s fanout level branch row h =
     let P : ℕ → Type 0 = λ n. IsIndexNodeAt s.holds branch (record { level = n; branches = branches_of row }) in
     let Q : ℕ → Type 0 = λ n. AreStored s.holds n row in
     let said = subst P same h.stored.1 in
-    let own = said_by s.holds branch (record { level = level; branches = branches_of row }) said in
+    let own = said_is_node s.holds branch (record { level = level; branches = branches_of row }) said in
     record {
       said = said;
       lnum = lebs.0;
@@ -235,5 +235,5 @@ row_as s fanout f levels l row e k h =
 pub read_bytes : (leb : List ℕ) (offs n len : ℕ) → n ≡ len → take (offs + n - offs) (drop offs leb) ≡ take len (drop offs leb)
 read_bytes leb offs n len e = let same : offs + n - offs ≡ len = omega (arith, e) in ap (λ k. take k (drop offs leb)) same
 
-pub written_back : (xs ys : List ℕ) (n : ℕ) → n ≡ length xs → take n (xs ++ ys) ≡ xs
-written_back xs ys n e = ap (λ k. take k (xs ++ ys)) e ∙ take-append_seam xs ys
+pub front_taken : (xs ys : List ℕ) (n : ℕ) → n ≡ length xs → take n (xs ++ ys) ≡ xs
+front_taken xs ys n e = ap (λ k. take k (xs ++ ys)) e ∙ take-append_seam xs ys

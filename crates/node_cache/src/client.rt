@@ -6,7 +6,7 @@ ghost use Rattle.index_media.specs.PlacedRow.{PlacedRow, lebs_of, plain};
 ghost use Rattle.index_tree.specs.Order.{key_rank, of_rank, first_after};
 ghost use Rattle.index_tree.specs.Shape.{contents};
 ghost use Rattle.node_cache.specs.Kept.{AreKept};
-ghost use Rattle.node_cache.specs.Loaded.{IsIndexOn, IsRead};
+ghost use Rattle.node_cache.specs.Loaded.{IsIndexOn, IsReadOnlyCall};
 
 use crate::cache::NodeCache;
 use index_media::an_index_depends_on_its_lebs_alone;
@@ -27,7 +27,7 @@ pub fn find_from<V: Volume>(
     requires index { (fanout : ℕ) × (placed : PlacedRow) × IsIndexOn (V.state volume.old) fanout root.now placed }
     ensures found { (fanout : ℕ) (placed : PlacedRow) → IsIndexOn (V.state volume.old) fanout root.now placed
         → IfOk result (λ found. found ≡ option_or (slice_get (of_rank (key_rank key.now) (contents (plain placed))) 0) (first_after (key_rank key.now) (contents (plain placed)))) }
-    ensures reads { IsRead (V.state volume.old) (V.state volume.new) result }
+    ensures reads { IsReadOnlyCall (V.state volume.old) (V.state volume.new) result }
 {
     let mut cache = NodeCache::new(alloc)?;
     match cache.find(alloc, volume, root, key, 0)? {

@@ -6,7 +6,7 @@ ghost use Rattle.index_tree.specs.Shape.{contents};
 ghost use Rattle.index_media.specs.PlacedRow.{PlacedRow, ended, node_at, branches_of, plain};
 ghost use Rattle.node_cache.specs.Branches.{IsNth};
 ghost use Rattle.node_cache.specs.Kept.{AreKept};
-ghost use Rattle.node_cache.specs.Loaded.{IsIndexOn, IsRead, IsRowOn};
+ghost use Rattle.node_cache.specs.Loaded.{IsIndexOn, IsReadOnlyCall, IsRowOn};
 
 use crate::bisect::lower_branches_passed;
 use crate::branches::{begin_below, begin_within, leaf_to};
@@ -36,7 +36,7 @@ impl NodeCache {
         requires kept { AreKept (V.state volume.old).holds self.old }
         ensures found { (fanout : ℕ) (placed : PlacedRow) → IsIndexOn (V.state volume.old) fanout root.now placed
             → IfOk result (λ found. found ≡ slice_get (of_rank (key_rank key.now) (contents (plain placed))) nth) }
-        ensures reads { IsRead (V.state volume.old) (V.state volume.new) result }
+        ensures reads { IsReadOnlyCall (V.state volume.old) (V.state volume.new) result }
         ensures kept { AreKept (V.state volume.new).holds self.new }
     {
         let level = self.level_at(alloc, volume, root)?;
@@ -62,7 +62,7 @@ impl NodeCache {
         requires kept { AreKept (V.state volume.old).holds self.old }
         ensures found { (fanout : ℕ) (row : PlacedRow) → IsRowOn (V.state volume.old) fanout (level + 1) (node_at branch.now row ended)
             → IfOk result (IsNth (of_rank at (contents (plain row))) nth) }
-        ensures reads { IsRead (V.state volume.old) (V.state volume.new) result }
+        ensures reads { IsReadOnlyCall (V.state volume.old) (V.state volume.new) result }
         ensures kept { AreKept (V.state volume.new).holds self.new }
     {
         let node = self.take(alloc, volume, branch)?;
@@ -88,7 +88,7 @@ impl NodeCache {
         requires kept { AreKept (V.state volume.old).holds self.old }
         ensures found { (fanout : ℕ) (row : PlacedRow) → branches_of row ≡ branches.now → IsRowOn (V.state volume.old) fanout levels row
             → IfOk result (IsNth (of_rank at (contents (plain row))) nth) }
-        ensures reads { IsRead (V.state volume.old) (V.state volume.new) result }
+        ensures reads { IsReadOnlyCall (V.state volume.old) (V.state volume.new) result }
         ensures kept { AreKept (V.state volume.new).holds self.new }
     {
         match branches.split_first() {
@@ -125,7 +125,7 @@ impl NodeCache {
         requires kept { AreKept (V.state volume.old).holds self.old }
         ensures found { (fanout : ℕ) (row : PlacedRow) → branches_of row ≡ branch.now ∷ [] → IsRowOn (V.state volume.old) fanout levels row
             → IfOk result (IsNth (of_rank at (contents (plain row))) nth) }
-        ensures reads { IsRead (V.state volume.old) (V.state volume.new) result }
+        ensures reads { IsReadOnlyCall (V.state volume.old) (V.state volume.new) result }
         ensures kept { AreKept (V.state volume.new).holds self.new }
     {
         if levels == 0 {

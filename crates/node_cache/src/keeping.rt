@@ -3,8 +3,8 @@
 ghost use Rattle.std.specs.Prelude.{◌≡◌, ◌<◌, ◌≤◌, ℕ, List, [], IfOk, IfSome, length};
 ghost use Rattle.index_media.specs.Stored.{IsIndexNodeAt};
 ghost use Rattle.media_sys.specs.Index.{Index as AnIndexNode, index_of};
-ghost use Rattle.node_cache.specs.Kept.{AreKept, IsNodeOf, place_of};
-ghost use Rattle.node_cache.specs.Loaded.{IsRead};
+ghost use Rattle.node_cache.specs.Kept.{AreKept, IsIndexNodeOf, branch_place};
+ghost use Rattle.node_cache.specs.Loaded.{IsReadOnlyCall};
 
 use crate::cache::NodeCache;
 use crate::reading::read_node;
@@ -62,7 +62,7 @@ impl NodeCache {
 
     /// Takes the node to which a branch leads out, if it is kept.
     fn take_kept(&mut self, branch: &Branch) -> Option<IdxNode>
-        ensures node { (contents : ℕ → List ℕ) → AreKept contents self.old → IfSome result (IsNodeOf contents (place_of branch.now)) }
+        ensures node { (contents : ℕ → List ℕ) → AreKept contents self.old → IfSome result (IsIndexNodeOf contents (branch_place branch.now)) }
         ensures kept { (contents : ℕ → List ℕ) → AreKept contents self.old → AreKept contents self.new }
     {
         self.nodes.pop(&(branch.lnum, branch.offs, branch.len))
@@ -80,7 +80,7 @@ impl NodeCache {
         requires kept { AreKept (V.state volume.old).holds self.old }
         ensures said { (said : AnIndexNode) → IsIndexNodeAt (V.state volume.old).holds branch.now said → IfOk result (λ node. index_of node ≡ said) }
         ensures few { IfOk result (λ node. length node.branches.items ≤ 256) }
-        ensures reads { IsRead (V.state volume.old) (V.state volume.new) result }
+        ensures reads { IsReadOnlyCall (V.state volume.old) (V.state volume.new) result }
         ensures kept { AreKept (V.state volume.new).holds self.new }
     {
         match self.take_kept(branch) {
@@ -103,7 +103,7 @@ impl NodeCache {
         requires node { (said : AnIndexNode) × IsIndexNodeAt (V.state volume.old).holds branch.now said }
         requires kept { AreKept (V.state volume.old).holds self.old }
         ensures said { (said : AnIndexNode) → IsIndexNodeAt (V.state volume.old).holds branch.now said → IfOk result (λ node. index_of node ≡ said) }
-        ensures reads { IsRead (V.state volume.old) (V.state volume.new) result }
+        ensures reads { IsReadOnlyCall (V.state volume.old) (V.state volume.new) result }
         ensures kept { AreKept (V.state volume.new).holds self.new }
     {
         let node = self.take(alloc, volume, branch)?;
@@ -123,7 +123,7 @@ impl NodeCache {
         requires node { (said : AnIndexNode) × IsIndexNodeAt (V.state volume.old).holds branch.now said }
         requires kept { AreKept (V.state volume.old).holds self.old }
         ensures level { (said : AnIndexNode) → IsIndexNodeAt (V.state volume.old).holds branch.now said → IfOk result (λ level. level ≡ said.level) }
-        ensures reads { IsRead (V.state volume.old) (V.state volume.new) result }
+        ensures reads { IsReadOnlyCall (V.state volume.old) (V.state volume.new) result }
         ensures kept { AreKept (V.state volume.new).holds self.new }
     {
         let node = self.take(alloc, volume, branch)?;
@@ -134,7 +134,7 @@ impl NodeCache {
 
     /// Keeps the node to which a branch leads, as the one that was used last. If there is no memory, it isn't kept.
     pub(crate) fn keep(&mut self, branch: &Branch, node: IdxNode)
-        ensures kept { (contents : ℕ → List ℕ) → AreKept contents self.old → IsNodeOf contents (place_of branch.now) node → AreKept contents self.new }
+        ensures kept { (contents : ℕ → List ℕ) → AreKept contents self.old → IsIndexNodeOf contents (branch_place branch.now) node → AreKept contents self.new }
     {
         match self.nodes.put((branch.lnum, branch.offs, branch.len), node) {
             Ok(_) => (),

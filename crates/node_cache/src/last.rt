@@ -7,7 +7,7 @@ ghost use Rattle.index_tree.specs.LastBlock.{is_block_of, last_block, up_to};
 ghost use Rattle.index_tree.specs.Shape.{contents};
 ghost use Rattle.index_media.specs.PlacedRow.{PlacedRow, ended, node_at, branches_of, plain};
 ghost use Rattle.node_cache.specs.Kept.{AreKept};
-ghost use Rattle.node_cache.specs.Loaded.{IsIndexOn, IsRead, IsRowOn};
+ghost use Rattle.node_cache.specs.Loaded.{IsIndexOn, IsReadOnlyCall, IsRowOn};
 
 use crate::bisect::branches_passed;
 use crate::branches::{begin_within, leaf_to};
@@ -55,7 +55,7 @@ impl NodeCache {
         requires kept { AreKept (V.state volume.old).holds self.old }
         ensures found { (fanout : ℕ) (placed : PlacedRow) → IsIndexOn (V.state volume.old) fanout root.now placed
             → IfOk result (λ found. found ≡ last_block ino (contents (plain placed))) }
-        ensures reads { IsRead (V.state volume.old) (V.state volume.new) result }
+        ensures reads { IsReadOnlyCall (V.state volume.old) (V.state volume.new) result }
         ensures kept { AreKept (V.state volume.new).holds self.new }
     {
         let level = self.level_at(alloc, volume, root)?;
@@ -84,7 +84,7 @@ impl NodeCache {
         requires kept { AreKept (V.state volume.old).holds self.old }
         ensures found { (fanout : ℕ) (row : PlacedRow) → IsRowOn (V.state volume.old) fanout (level + 1) (node_at branch.now row ended)
             → IfOk result (λ found. found ≡ last_or None (up_to at (contents (plain row)))) }
-        ensures reads { IsRead (V.state volume.old) (V.state volume.new) result }
+        ensures reads { IsReadOnlyCall (V.state volume.old) (V.state volume.new) result }
         ensures kept { AreKept (V.state volume.new).holds self.new }
     {
         let node = self.take(alloc, volume, branch)?;
@@ -107,7 +107,7 @@ impl NodeCache {
         requires kept { AreKept (V.state volume.old).holds self.old }
         ensures found { (fanout : ℕ) (row : PlacedRow) → branches_of row ≡ branches.now → IsRowOn (V.state volume.old) fanout levels row
             → IfOk result (λ found. found ≡ last_or None (up_to at (contents (plain row)))) }
-        ensures reads { IsRead (V.state volume.old) (V.state volume.new) result }
+        ensures reads { IsReadOnlyCall (V.state volume.old) (V.state volume.new) result }
         ensures kept { AreKept (V.state volume.new).holds self.new }
     {
         let passed = branches_passed(branches, at);
@@ -135,7 +135,7 @@ impl NodeCache {
         requires kept { AreKept (V.state volume.old).holds self.old }
         ensures found { (fanout : ℕ) (row : PlacedRow) → branches_of row ≡ branches.now → IsRowOn (V.state volume.old) fanout levels row
             → IfOk result (λ found. found ≡ last_or None (up_to at (contents (plain row)))) }
-        ensures reads { IsRead (V.state volume.old) (V.state volume.new) result }
+        ensures reads { IsReadOnlyCall (V.state volume.old) (V.state volume.new) result }
         ensures kept { AreKept (V.state volume.new).holds self.new }
     {
         match branches.split_first() {
@@ -166,7 +166,7 @@ impl NodeCache {
         requires kept { AreKept (V.state volume.old).holds self.old }
         ensures found { (fanout : ℕ) (row : PlacedRow) → branches_of row ≡ branch.now ∷ [] → IsRowOn (V.state volume.old) fanout levels row
             → IfOk result (λ found. found ≡ last_or None (up_to at (contents (plain row)))) }
-        ensures reads { IsRead (V.state volume.old) (V.state volume.new) result }
+        ensures reads { IsReadOnlyCall (V.state volume.old) (V.state volume.new) result }
         ensures kept { AreKept (V.state volume.new).holds self.new }
     {
         if levels == 0 {

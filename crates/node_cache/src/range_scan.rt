@@ -6,7 +6,7 @@ ghost use Rattle.index_tree.specs.RangeRemoval.{within_range};
 ghost use Rattle.index_tree.specs.Shape.{contents};
 ghost use Rattle.index_media.specs.PlacedRow.{PlacedRow, ended, node_at, branches_of, plain};
 ghost use Rattle.node_cache.specs.Kept.{AreKept};
-ghost use Rattle.node_cache.specs.Loaded.{IsIndexOn, IsRead, IsRowOn};
+ghost use Rattle.node_cache.specs.Loaded.{IsIndexOn, IsReadOnlyCall, IsRowOn};
 
 use crate::bisect::lower_branches_passed;
 use crate::branches::{begin_below, begin_within, leaf_to};
@@ -50,7 +50,7 @@ impl NodeCache {
         requires kept { AreKept (V.state volume.old).holds self.old }
         ensures leaves { (fanout : ℕ) (placed : PlacedRow) → IsIndexOn (V.state volume.old) fanout root.now placed
             → IfOk result (λ leaves. leaves.items ≡ within_range (key_rank from.now) (key_rank to.now) (contents (plain placed))) }
-        ensures reads { IsRead (V.state volume.old) (V.state volume.new) result }
+        ensures reads { IsReadOnlyCall (V.state volume.old) (V.state volume.new) result }
         ensures kept { AreKept (V.state volume.new).holds self.new }
     {
         let level = self.level_at(alloc, volume, root)?;
@@ -83,7 +83,7 @@ impl NodeCache {
         requires kept { AreKept (V.state volume.old).holds self.old }
         ensures pushed { (fanout : ℕ) (row : PlacedRow) → IsRowOn (V.state volume.old) fanout (level + 1) (node_at branch.now row ended)
             → OnOk result (leaves.new.items ≡ leaves.old.items ++ within_range from to (contents (plain row))) }
-        ensures reads { IsRead (V.state volume.old) (V.state volume.new) result }
+        ensures reads { IsReadOnlyCall (V.state volume.old) (V.state volume.new) result }
         ensures kept { AreKept (V.state volume.new).holds self.new }
     {
         let node = self.take(alloc, volume, branch)?;
@@ -110,7 +110,7 @@ impl NodeCache {
         requires kept { AreKept (V.state volume.old).holds self.old }
         ensures pushed { (fanout : ℕ) (row : PlacedRow) → branches_of row ≡ branches.now → IsRowOn (V.state volume.old) fanout levels row
             → OnOk result (leaves.new.items ≡ leaves.old.items ++ within_range from to (contents (plain row))) }
-        ensures reads { IsRead (V.state volume.old) (V.state volume.new) result }
+        ensures reads { IsReadOnlyCall (V.state volume.old) (V.state volume.new) result }
         ensures kept { AreKept (V.state volume.new).holds self.new }
     {
         match branches.split_first() {
@@ -144,7 +144,7 @@ impl NodeCache {
         requires kept { AreKept (V.state volume.old).holds self.old }
         ensures pushed { (fanout : ℕ) (row : PlacedRow) → branches_of row ≡ branch.now ∷ [] → IsRowOn (V.state volume.old) fanout levels row
             → OnOk result (leaves.new.items ≡ leaves.old.items ++ within_range from to (contents (plain row))) }
-        ensures reads { IsRead (V.state volume.old) (V.state volume.new) result }
+        ensures reads { IsReadOnlyCall (V.state volume.old) (V.state volume.new) result }
         ensures kept { AreKept (V.state volume.new).holds self.new }
     {
         if levels == 0 {

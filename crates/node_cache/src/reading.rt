@@ -4,7 +4,7 @@ ghost use Rattle.std.specs.Prelude.{◌≡◌, ◌<◌, ◌≤◌, ℕ, IfOk, le
 ghost use Rattle.index_media.specs.Stored.{IsIndexNodeAt};
 ghost use Rattle.media_sys.specs.Index.{Index as AnIndexNode, index_of};
 ghost use Rattle.media_sys.specs.SystemNode.{IsSystemNode, index};
-ghost use Rattle.node_cache.specs.Loaded.{IsRead};
+ghost use Rattle.node_cache.specs.Loaded.{IsReadOnlyCall};
 
 use media_sys::{Branch, IdxNode, one_node};
 use std::alloc::Global;
@@ -33,7 +33,7 @@ pub fn read_node<V: Volume>(
     requires node { (said : AnIndexNode) × IsIndexNodeAt (V.state volume.old).holds branch.now said }
     ensures said { (said : AnIndexNode) → IsIndexNodeAt (V.state volume.old).holds branch.now said → IfOk result (λ node. index_of node ≡ said) }
     ensures few { IfOk result (λ node. length node.branches.items ≤ 256) }
-    ensures reads { IsRead (V.state volume.old) (V.state volume.new) result }
+    ensures reads { IsReadOnlyCall (V.state volume.old) (V.state volume.new) result }
 {
     let mut bytes = vec![in alloc; 0; branch.len as usize]?;
     volume.read(branch.lnum, branch.offs, &mut bytes)?;

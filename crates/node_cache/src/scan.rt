@@ -4,7 +4,7 @@ ghost use Rattle.std.specs.Prelude.{◌≡◌, ◌==◌, ◌+◌, ◌++◌, ◌�
 ghost use Rattle.index_tree.specs.Shape.{contents};
 ghost use Rattle.index_media.specs.PlacedRow.{PlacedRow, ended, node_at, branches_of, plain};
 ghost use Rattle.node_cache.specs.Kept.{AreKept};
-ghost use Rattle.node_cache.specs.Loaded.{IsIndexOn, IsRead, IsRowOn};
+ghost use Rattle.node_cache.specs.Loaded.{IsIndexOn, IsReadOnlyCall, IsRowOn};
 
 use crate::branches::leaf_to;
 use crate::cache::NodeCache;
@@ -40,7 +40,7 @@ impl NodeCache {
         requires kept { AreKept (V.state volume.old).holds self.old }
         ensures leaves { (fanout : ℕ) (placed : PlacedRow) → IsIndexOn (V.state volume.old) fanout root.now placed
             → IfOk result (λ leaves. leaves.items ≡ filter (λ x. x.lnum == lnum) (contents (plain placed))) }
-        ensures reads { IsRead (V.state volume.old) (V.state volume.new) result }
+        ensures reads { IsReadOnlyCall (V.state volume.old) (V.state volume.new) result }
         ensures kept { AreKept (V.state volume.new).holds self.new }
     {
         let level = self.level_at(alloc, volume, root)?;
@@ -64,7 +64,7 @@ impl NodeCache {
         requires kept { AreKept (V.state volume.old).holds self.old }
         ensures pushed { (fanout : ℕ) (row : PlacedRow) → IsRowOn (V.state volume.old) fanout (level + 1) (node_at branch.now row ended)
             → OnOk result (leaves.new.items ≡ leaves.old.items ++ filter (λ x. x.lnum == lnum) (contents (plain row))) }
-        ensures reads { IsRead (V.state volume.old) (V.state volume.new) result }
+        ensures reads { IsReadOnlyCall (V.state volume.old) (V.state volume.new) result }
         ensures kept { AreKept (V.state volume.new).holds self.new }
     {
         let node = self.take(alloc, volume, branch)?;
@@ -88,7 +88,7 @@ impl NodeCache {
         requires kept { AreKept (V.state volume.old).holds self.old }
         ensures pushed { (fanout : ℕ) (row : PlacedRow) → branches_of row ≡ branches.now → IsRowOn (V.state volume.old) fanout levels row
             → OnOk result (leaves.new.items ≡ leaves.old.items ++ filter (λ x. x.lnum == lnum) (contents (plain row))) }
-        ensures reads { IsRead (V.state volume.old) (V.state volume.new) result }
+        ensures reads { IsReadOnlyCall (V.state volume.old) (V.state volume.new) result }
         ensures kept { AreKept (V.state volume.new).holds self.new }
     {
         match branches.split_first() {
@@ -115,7 +115,7 @@ impl NodeCache {
         requires kept { AreKept (V.state volume.old).holds self.old }
         ensures pushed { (fanout : ℕ) (row : PlacedRow) → branches_of row ≡ branch.now ∷ [] → IsRowOn (V.state volume.old) fanout levels row
             → OnOk result (leaves.new.items ≡ leaves.old.items ++ filter (λ x. x.lnum == lnum) (contents (plain row))) }
-        ensures reads { IsRead (V.state volume.old) (V.state volume.new) result }
+        ensures reads { IsReadOnlyCall (V.state volume.old) (V.state volume.new) result }
         ensures kept { AreKept (V.state volume.new).holds self.new }
     {
         if levels == 0 {

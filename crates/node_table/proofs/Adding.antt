@@ -8,50 +8,50 @@ use Rattle.ubifs_base.specs.declared.key.Key.{Key}
 use Rattle.index_media.specs.KeyedRow.{KeyedRow, no_more, node_in}
 use Rattle.table_nodes.specs.Beyond.{is_loaded, are_loaded}
 use Rattle.table_nodes.specs.BeyondLaws.{loaded_row}
-use Rattle.node_table.specs.Clean.{is_clean_below, are_clean_below}
-use Rattle.table_nodes.specs.NodeView.{node_before, row_of, view_of, stretch_at, views, tree_at, IsRootIn}
+use Rattle.table_nodes.specs.Clean.{is_clean_below, are_clean_below}
+use Rattle.table_nodes.specs.NodeView.{node_before, row_of, node_view_of, stretch_at, node_views, tree_at, IsRootIn}
 use Rattle.table_nodes.specs.Sound.{IsSoundView, AreSoundViews}
 use Rattle.table_nodes.specs.declared.node.Root.{Root}
 use Rattle.table_nodes.specs.declared.node.TableNode.{TableNode}
 use Rattle.table_nodes.specs.NodeViewLaws.{get_left, get_seam, views_push, views_length}
 
-pub pushed_sound : (fanout : ℕ) (nodes : List TableNode) (n : TableNode) → AreSoundViews fanout (views nodes) → IsSoundView fanout (view_of (views nodes) n)
-    → AreSoundViews fanout (views (nodes ++ n ∷ []))
-pushed_sound fanout nodes n s h = subst (λ v. AreSoundViews fanout v) (sym (views_push nodes n)) (All-push (λ v. IsSoundView fanout v) (views nodes) (view_of (views nodes) n) s h)
+pub pushed_sound : (fanout : ℕ) (nodes : List TableNode) (n : TableNode) → AreSoundViews fanout (node_views nodes) → IsSoundView fanout (node_view_of (node_views nodes) n)
+    → AreSoundViews fanout (node_views (nodes ++ n ∷ []))
+pushed_sound fanout nodes n s h = subst (λ v. AreSoundViews fanout v) (sym (views_push nodes n)) (All-push (λ v. IsSoundView fanout v) (node_views nodes) (node_view_of (node_views nodes) n) s h)
 
 pub pushed_kept : (nodes : List TableNode) (n : TableNode) (root : Option Root) → IsRootIn nodes root → tree_at (nodes ++ n ∷ []) root ≡ tree_at nodes root
 pushed_kept nodes n None h = refl
 pushed_kept nodes n (Some root) h =
-    let seen = views nodes in
-    let v = view_of seen n in
+    let seen = node_views nodes in
+    let v = node_view_of seen n in
     let long = views_length nodes in
     let there = slice_get-get_or seen root.number v (omega (arith, h, long)) in
     let after = ap (λ w. slice_get w root.number) (views_push nodes n) ∙ get_left seen (v ∷ []) root.number _ there in
     ap (λ o. node_before root.key o no_more) (after ∙ sym there)
 
 pub pushed_made : (nodes : List TableNode) (n : TableNode) (key : Key) (number : ℕ) → number ≡ length nodes → is_loaded n ≡ true
-    → tree_at (nodes ++ n ∷ []) (Some (record { key = key; number = number })) ≡ node_in key (stretch_at n.place) (row_of (views nodes) n.links.items) no_more
+    → tree_at (nodes ++ n ∷ []) (Some (record { key = key; number = number })) ≡ node_in key (stretch_at n.place) (row_of (node_views nodes) n.links.items) no_more
 pushed_made nodes n key number e l =
-    let seen = views nodes in
-    let v = view_of seen n in
+    let seen = node_views nodes in
+    let v = node_view_of seen n in
     let place : number ≡ length seen = e ∙ sym (views_length nodes) in
     ap (λ o. node_before key o no_more) (ap (λ w. slice_get w number) (views_push nodes n) ∙ ap (λ k. slice_get (seen ++ v ∷ []) k) place ∙ get_seam seen v [])
     ∙ ap (λ (r : KeyedRow). node_in key (stretch_at n.place) r no_more) (loaded_row seen n l)
 
 -- the table after a node that may have found no memory
-pub after_push : (fanout : ℕ) (nodes new : List TableNode) (n : TableNode) (b : Bool) → new ≡ (if b then nodes ++ n ∷ [] else nodes) → AreSoundViews fanout (views nodes)
-    → IsSoundView fanout (view_of (views nodes) n) → AreSoundViews fanout (views new)
-after_push fanout nodes new n true e s h = subst (λ v. AreSoundViews fanout (views v)) (sym e) (pushed_sound fanout nodes n s h)
-after_push fanout nodes new n false e s h = subst (λ v. AreSoundViews fanout (views v)) (sym e) s
+pub after_push : (fanout : ℕ) (nodes new : List TableNode) (n : TableNode) (b : Bool) → new ≡ (if b then nodes ++ n ∷ [] else nodes) → AreSoundViews fanout (node_views nodes)
+    → IsSoundView fanout (node_view_of (node_views nodes) n) → AreSoundViews fanout (node_views new)
+after_push fanout nodes new n true e s h = subst (λ v. AreSoundViews fanout (node_views v)) (sym e) (pushed_sound fanout nodes n s h)
+after_push fanout nodes new n false e s h = subst (λ v. AreSoundViews fanout (node_views v)) (sym e) s
 
-pub after_push_settled : (nodes new : List TableNode) (n : TableNode) (b : Bool) → new ≡ (if b then nodes ++ n ∷ [] else nodes) → are_clean_below (views nodes) ≡ true
-    → is_clean_below (view_of (views nodes) n) ≡ true → are_clean_below (views new) ≡ true
+pub after_push_settled : (nodes new : List TableNode) (n : TableNode) (b : Bool) → new ≡ (if b then nodes ++ n ∷ [] else nodes) → are_clean_below (node_views nodes) ≡ true
+    → is_clean_below (node_view_of (node_views nodes) n) ≡ true → are_clean_below (node_views new) ≡ true
 after_push_settled nodes new n true e s h =
-    let seen = views nodes in
-    let v = view_of seen n in
+    let seen = node_views nodes in
+    let v = node_view_of seen n in
     let one : are_clean_below (v ∷ []) ≡ true = rw h refl in
-    ap (λ v. are_clean_below (views v)) e ∙ ap are_clean_below (views_push nodes n) ∙ list_all-append is_clean_below seen (v ∷ []) ∙ rw (s, one) refl
-after_push_settled nodes new n false e s h = ap (λ v. are_clean_below (views v)) e ∙ s
+    ap (λ v. are_clean_below (node_views v)) e ∙ ap are_clean_below (views_push nodes n) ∙ list_all-append is_clean_below seen (v ∷ []) ∙ rw (s, one) refl
+after_push_settled nodes new n false e s h = ap (λ v. are_clean_below (node_views v)) e ∙ s
 
 pub after_push_loaded : (nodes new : List TableNode) (n : TableNode) (b : Bool) → new ≡ (if b then nodes ++ n ∷ [] else nodes) → are_loaded nodes ≡ true → is_loaded n ≡ true → are_loaded new ≡ true
 after_push_loaded nodes new n true e s h =

@@ -8,28 +8,28 @@ use Rattle.index_tree.specs.Shape.{contents, count}
 use Rattle.index_tree.specs.declared.leaf.Leaf.{Leaf}
 use Rattle.index_media.specs.KeyedRemoval.{without_leaf_by_keys}
 use Rattle.index_media.specs.KeyedRow.{KeyedRow, no_more, bare}
-use Rattle.node_table.specs.Changing.{IsChange, AreChanges, changed, changed_by, leaves_after, leaves_after_all}
+use Rattle.node_table.specs.Changing.{IsChange, AreChanges, changed_row, changed_by, leaves_after_change, leaves_after_all}
 use Rattle.node_table.specs.Exchange.{tree_without}
-use Rattle.table_nodes.specs.NodeView.{NodeView, node_before, views, tree_at}
+use Rattle.table_nodes.specs.NodeView.{NodeView, node_before, node_views, tree_at}
 use Rattle.node_table.specs.declared.change.Change.{Change}
 use Rattle.table_nodes.specs.declared.node.Root.{Root}
 use Rattle.table_nodes.specs.declared.node.TableNode.{TableNode}
 
 -- one change more
-changed_last : (f : ℕ) (changes : List Change) (change : Change) (row : KeyedRow) → changed_by f (changes ++ change ∷ []) row ≡ changed f change (changed_by f changes row)
+changed_last : (f : ℕ) (changes : List Change) (change : Change) (row : KeyedRow) → changed_by f (changes ++ change ∷ []) row ≡ changed_row f change (changed_by f changes row)
 changed_last f [] change row = refl
-changed_last f (first ∷ rest) change row = changed_last f rest change (changed f first row)
+changed_last f (first ∷ rest) change row = changed_last f rest change (changed_row f first row)
 
-leaves_last : (changes : List Change) (change : Change) (xs : List Leaf) → leaves_after_all (changes ++ change ∷ []) xs ≡ leaves_after change (leaves_after_all changes xs)
+leaves_last : (changes : List Change) (change : Change) (xs : List Leaf) → leaves_after_all (changes ++ change ∷ []) xs ≡ leaves_after_change change (leaves_after_all changes xs)
 leaves_last [] change xs = refl
-leaves_last (first ∷ rest) change xs = leaves_last rest change (leaves_after first xs)
+leaves_last (first ∷ rest) change xs = leaves_last rest change (leaves_after_change first xs)
 
 pub changed_more : (f : ℕ) (changes : List Change) (i : ℕ) (d : Change) (row : KeyedRow) → i < length changes
-    → changed f (get_or changes i d) (changed_by f (take i changes) row) ≡ changed_by f (take (i + 1) changes) row
+    → changed_row f (get_or changes i d) (changed_by f (take i changes) row) ≡ changed_by f (take (i + 1) changes) row
 changed_more f changes i d row h = sym (ap (λ v. changed_by f v row) (take_more changes i d h) ∙ changed_last f (take i changes) (get_or changes i d) row)
 
 pub leaves_more : (changes : List Change) (i : ℕ) (d : Change) (xs : List Leaf) → i < length changes
-    → leaves_after (get_or changes i d) (leaves_after_all (take i changes) xs) ≡ leaves_after_all (take (i + 1) changes) xs
+    → leaves_after_change (get_or changes i d) (leaves_after_all (take i changes) xs) ≡ leaves_after_all (take (i + 1) changes) xs
 leaves_more changes i d xs h = sym (ap (λ v. leaves_after_all v xs) (take_more changes i d h) ∙ leaves_last (take i changes) (get_or changes i d) xs)
 
 pub change_at : (changes : List Change) (i : ℕ) (d : Change) → AreChanges changes → i < length changes → IsChange (get_or changes i d)
@@ -44,7 +44,7 @@ node_short (Some v) root = refl
 
 pub top_short : (nodes : List TableNode) (root : Option Root) → count (bare (tree_at nodes root)) ≤ 1
 top_short nodes None = omega arith
-top_short nodes (Some root) = let one = node_short (slice_get (views nodes) root.number) root in omega (arith, one)
+top_short nodes (Some root) = let one = node_short (slice_get (node_views nodes) root.number) root in omega (arith, one)
 
 -- the leaves that a removal leaves
 without_same : (z : Leaf) (xs : List Leaf) → holds z xs ≡ false → without z xs ≡ xs

@@ -7,10 +7,11 @@ use Rattle.index_media.specs.Clean.{is_clean_row, node_branch, placed_of}
 use Rattle.index_media.specs.KeyedRow.{KeyedRow, no_more, leaf_in, node_in, all_clean}
 use Rattle.index_media.specs.PlacedRow.{Stretch}
 use Rattle.table_nodes.specs.BeyondLaws.{dirty_row}
-use Rattle.node_table.specs.Clean.{is_clean_node, is_clean_below, are_clean_below, IsReadyNode}
+use Rattle.node_table.specs.Clean.{is_clean_node, IsReadyNode}
+use Rattle.table_nodes.specs.Clean.{is_clean_below, are_clean_below}
 use Rattle.node_table.specs.Dirty.{dirty_node, dirty_among, dirty_lists, dirty_from}
-use Rattle.table_nodes.specs.NodeView.{NodeView, stretch_at, node_before, row_of, view_of, views, children_in, tree_at}
-use Rattle.node_table.specs.Pruning.{place_in}
+use Rattle.table_nodes.specs.NodeView.{NodeView, stretch_at, node_before, row_of, node_view_of, node_views, children_in, tree_at}
+use Rattle.node_table.specs.Pruning.{stretch_in}
 use Rattle.table_nodes.specs.Sound.{AreSoundViews}
 use Rattle.table_nodes.specs.declared.link.Link.{Link}
 use Rattle.table_nodes.specs.declared.link.Link.TheVariants.{ToLeaf, ToNode}
@@ -18,8 +19,8 @@ use Rattle.table_nodes.specs.declared.node.NodePlace.{NodePlace}
 use Rattle.table_nodes.specs.declared.node.Root.{Root}
 use Rattle.table_nodes.specs.declared.node.TableNode.{TableNode}
 use Rattle.node_table.proofs.DirtyLists.{dirty_opened}
-use Rattle.node_table.proofs.GivenPlaces.{and_left, and_right, clean_node}
 use Rattle.table_nodes.specs.NodeViewLaws.{opened, views_length}
+use Rattle.node_cache.specs.CleanRows.{and_left, and_right, clean_node}
 
 -- a clean node before a row
 pub clean_before : (key : Key) (o : Option NodeView) (rest : KeyedRow) → is_clean_node o ≡ true → is_clean_row rest ≡ true → is_clean_row (node_before key o rest) ≡ true
@@ -39,7 +40,7 @@ pub clean_first : (seen : List NodeView) (link : Link) (rest : List Link) → is
 clean_first seen (ToLeaf x) rest h r = r
 clean_first seen (ToNode key number) rest h r = clean_before key (slice_get seen number) (row_of seen rest) (clean_apart key (slice_get seen number) no_more h).0 r
 
-clean_there : (seen : List NodeView) (i : ℕ) (o : Option NodeView) → slice_get seen i ≡ o → is_clean_node o ≡ true → (i < length seen) × (is_some (place_in o) ≡ true)
+clean_there : (seen : List NodeView) (i : ℕ) (o : Option NodeView) → slice_get seen i ≡ o → is_clean_node o ≡ true → (i < length seen) × (is_some (stretch_in o) ≡ true)
 clean_there seen i None e h = absurd cc
 clean_there seen i (Some v) e h = (slice_get_within seen i v e, and_left (is_some v.place) (is_clean_row v.children) h)
 
@@ -48,21 +49,21 @@ none_dirty None number below h = absurd cc
 none_dirty (Some p) number below h = refl
 
 -- a clean node has no dirty one
-clean_at : (f : ℕ) (nodes : List TableNode) (d : TableNode) (i : ℕ) → AreSoundViews f (views nodes) → is_clean_node (slice_get (views nodes) i) ≡ true → dirty_from nodes i ≡ []
+clean_at : (f : ℕ) (nodes : List TableNode) (d : TableNode) (i : ℕ) → AreSoundViews f (node_views nodes) → is_clean_node (slice_get (node_views nodes) i) ≡ true → dirty_from nodes i ≡ []
 clean_at f nodes d i s h =
-    let t = clean_there (views nodes) i (slice_get (views nodes) i) refl h in
+    let t = clean_there (node_views nodes) i (slice_get (node_views nodes) i) refl h in
     let long = views_length nodes in
     let n = get_or nodes i d in
     let there : slice_get nodes i ≡ Some n = slice_get-get_or nodes i d (omega (arith, t.0, long)) in
     let seen = opened f nodes i n s there in
-    let place : is_some (stretch_at n.place) ≡ true = sym (ap (λ o. is_some (place_in o)) seen) ∙ t.1 in
+    let place : is_some (stretch_at n.place) ≡ true = sym (ap (λ o. is_some (stretch_in o)) seen) ∙ t.1 in
     dirty_opened f nodes i n s there ∙ none_dirty n.place i (dirty_among (dirty_lists nodes) n.links.items) place
 
-clean_among : (f : ℕ) (nodes : List TableNode) (d : TableNode) (links : List Link) → AreSoundViews f (views nodes) → is_clean_row (row_of (views nodes) links) ≡ true → dirty_among (dirty_lists nodes) links ≡ []
+clean_among : (f : ℕ) (nodes : List TableNode) (d : TableNode) (links : List Link) → AreSoundViews f (node_views nodes) → is_clean_row (row_of (node_views nodes) links) ≡ true → dirty_among (dirty_lists nodes) links ≡ []
 clean_among f nodes d [] s h = refl
 clean_among f nodes d (ToLeaf x ∷ links) s h = clean_among f nodes d links s h
 clean_among f nodes d (ToNode key number ∷ links) s h =
-    let c = clean_apart key (slice_get (views nodes) number) (row_of (views nodes) links) h in
+    let c = clean_apart key (slice_get (node_views nodes) number) (row_of (node_views nodes) links) h in
     rw (clean_at f nodes d number s c.0, clean_among f nodes d links s c.1) refl
 
 -- a node that is ready, and what is seen of it
@@ -72,14 +73,14 @@ dirty_place (Some p) h = absurd cc
 
 pub record ReadyNode (f : ℕ) (nodes : List TableNode) (number : ℕ) (n : TableNode) : Type 0 where
   pub dirty : n.place ≡ None
-  pub children : children_in (slice_get (views nodes) number) ≡ row_of (views nodes) n.links.items
+  pub children : children_in (slice_get (node_views nodes) number) ≡ row_of (node_views nodes) n.links.items
   pub alone : dirty_from nodes number ≡ number ∷ []
 
-pub ready_node : (f : ℕ) (nodes : List TableNode) (number : ℕ) (n : TableNode) → AreSoundViews f (views nodes) → IsReadyNode nodes number → slice_get nodes number ≡ Some n → ReadyNode f nodes number n
+pub ready_node : (f : ℕ) (nodes : List TableNode) (number : ℕ) (n : TableNode) → AreSoundViews f (node_views nodes) → IsReadyNode nodes number → slice_get nodes number ≡ Some n → ReadyNode f nodes number n
 ready_node f nodes number n s r h =
     let seen = opened f nodes number n s h in
-    let dirty = dirty_place n.place (sym (ap place_in seen) ∙ r.dirty) in
-    let children = ap children_in seen ∙ dirty_row (views nodes) n dirty in
+    let dirty = dirty_place n.place (sym (ap stretch_in seen) ∙ r.dirty) in
+    let children = ap children_in seen ∙ dirty_row (node_views nodes) n dirty in
     let clean = ap is_clean_row (sym children) ∙ r.below in
     record {
       dirty = dirty;
@@ -115,11 +116,11 @@ some_stretch : (o : Option NodePlace) → is_some o ≡ true → is_some (stretc
 some_stretch None h = absurd cc
 some_stretch (Some p) h = refl
 
-pub placed_is_clean : (nodes : List TableNode) (i : ℕ) (n : TableNode) → are_clean_below (views nodes) ≡ true → slice_get (views nodes) i ≡ Some (view_of (views nodes) n) → is_some n.place ≡ true
-    → is_clean_node (slice_get (views nodes) i) ≡ true
+pub placed_is_clean : (nodes : List TableNode) (i : ℕ) (n : TableNode) → are_clean_below (node_views nodes) ≡ true → slice_get (node_views nodes) i ≡ Some (node_view_of (node_views nodes) n) → is_some n.place ≡ true
+    → is_clean_node (slice_get (node_views nodes) i) ≡ true
 placed_is_clean nodes i n s h p =
-    let own = settled_at (views nodes) i (view_of (views nodes) n) s h in
-    ap is_clean_node h ∙ settled_clean (stretch_at n.place) (is_clean_row (view_of (views nodes) n).children) (some_stretch n.place p) own
+    let own = settled_at (node_views nodes) i (node_view_of (node_views nodes) n) s h in
+    ap is_clean_node h ∙ settled_clean (stretch_at n.place) (is_clean_row (node_view_of (node_views nodes) n).children) (some_stretch n.place p) own
 
 pub placed_list : (o : Option NodePlace) (number : ℕ) (below : List ℕ) → is_some o ≡ true → dirty_node o number below ≡ []
 placed_list None number below h = absurd cc
@@ -134,8 +135,8 @@ dirty_view None h = refl
 dirty_view (Some p) h = absurd cc
 
 -- the index below a root
-pub clean_tree : (nodes : List TableNode) (root : Root) → is_clean_node (slice_get (views nodes) root.number) ≡ true → is_clean_row (tree_at nodes (Some root)) ≡ true
-clean_tree nodes root h = clean_before root.key (slice_get (views nodes) root.number) no_more h refl
+pub clean_tree : (nodes : List TableNode) (root : Root) → is_clean_node (slice_get (node_views nodes) root.number) ≡ true → is_clean_row (tree_at nodes (Some root)) ≡ true
+clean_tree nodes root h = clean_before root.key (slice_get (node_views nodes) root.number) no_more h refl
 
 -- a row that is clean stands on a medium
 node_clean : (key : Key) (place : Option Stretch) (children rest : KeyedRow) → is_some place ≡ true

@@ -8,10 +8,10 @@ use Rattle.index_tree.specs.Shape.{fits}
 use Rattle.index_media.specs.KeyedRow.{KeyedRow, bare}
 use Rattle.table_nodes.specs.BeyondLaws.{dirty_row}
 use Rattle.node_table.specs.Dirty.{dirty_node, dirty_among, dirty_behind, dirty_lists, dirty_from, dirty_below}
-use Rattle.table_nodes.specs.NodeView.{NodeView, view_of, views_behind, views, IsRootIn}
+use Rattle.table_nodes.specs.NodeView.{NodeView, node_view_of, views_behind, node_views, IsRootIn}
 use Rattle.node_table.specs.Placing.{with_place, without_number}
 use Rattle.table_nodes.specs.Sound.{AreSoundViews}
-use Rattle.table_nodes.specs.Links.{IsAdded, AreLinksIn}
+use Rattle.table_nodes.specs.Links.{AreNodesAdded, AreLinksIn}
 use Rattle.table_nodes.specs.declared.link.Link.{Link}
 use Rattle.table_nodes.specs.declared.link.Link.TheVariants.{ToLeaf, ToNode}
 use Rattle.table_nodes.specs.declared.node.NodePlace.{NodePlace}
@@ -35,18 +35,18 @@ among_more known more [] h = refl
 among_more known more (ToLeaf x ∷ links) h = among_more known more links h.1
 among_more known more (ToNode key number ∷ links) h = rw (get_first known more number h.0, among_more known more links h.1) refl
 
-dirty_more : (known : List (List ℕ)) (nodes : List TableNode) → (more : List (List ℕ)) × (dirty_behind known nodes ≡ known ++ more)
+pub dirty_more : (known : List (List ℕ)) (nodes : List TableNode) → (more : List (List ℕ)) × (dirty_behind known nodes ≡ known ++ more)
 dirty_more known [] = ([], sym (append-nil known))
 dirty_more known (n ∷ ns) =
     let own = dirty_node n.place (length known) (dirty_among known n.links.items) in
     let p = dirty_more (known ++ own ∷ []) ns in
     (own ∷ p.0, p.1 ∙ append_assoc known (own ∷ []) p.0)
 
-dirty_append : (known : List (List ℕ)) (xs ys : List TableNode) → dirty_behind known (xs ++ ys) ≡ dirty_behind (dirty_behind known xs) ys
+pub dirty_append : (known : List (List ℕ)) (xs ys : List TableNode) → dirty_behind known (xs ++ ys) ≡ dirty_behind (dirty_behind known xs) ys
 dirty_append known [] ys = refl
 dirty_append known (x ∷ xs) ys = dirty_append (known ++ dirty_node x.place (length known) (dirty_among known x.links.items) ∷ []) xs ys
 
-dirty_long : (known : List (List ℕ)) (nodes : List TableNode) → length (dirty_behind known nodes) ≡ length known + length nodes
+pub dirty_long : (known : List (List ℕ)) (nodes : List TableNode) → length (dirty_behind known nodes) ≡ length known + length nodes
 dirty_long known [] = omega arith
 dirty_long known (n ∷ ns) =
     let own = dirty_node n.place (length known) (dirty_among known n.links.items) in
@@ -55,7 +55,7 @@ dirty_long known (n ∷ ns) =
     omega (arith, more, one)
 
 -- nodes behind change nothing
-pub dirty_kept : (old new : List TableNode) (root : Option Root) → IsAdded old new → IsRootIn old root → dirty_below new root ≡ dirty_below old root
+pub dirty_kept : (old new : List TableNode) (root : Option Root) → AreNodesAdded old new → IsRootIn old root → dirty_below new root ≡ dirty_below old root
 dirty_kept old new None a h = refl
 dirty_kept old new (Some root) a h =
     let p = dirty_more (dirty_lists old) a.more in
@@ -74,7 +74,7 @@ dirty_opened_behind : (f : ℕ) (seen : List NodeView) (known : List (List ℕ))
 dirty_opened_behind f seen known [] i n l s h = absurd cc
 dirty_opened_behind f seen known (m ∷ ms) zero n l s h =
     let same : m ≡ n = cc in
-    let v = view_of seen m in
+    let v = node_view_of seen m in
     let more = views_more (seen ++ v ∷ []) ms in
     let all : views_behind seen (m ∷ ms) ≡ seen ++ v ∷ more.0 = more.1 ∙ append_assoc seen (v ∷ []) more.0 in
     let here : slice_get (views_behind seen (m ∷ ms)) (length seen) ≡ Some v = ap (λ xs. slice_get xs (length seen)) all ∙ get_seam seen v more.0 in
@@ -96,12 +96,12 @@ dirty_opened_behind f seen known (m ∷ ms) zero n l s h =
 dirty_opened_behind f seen known (m ∷ ms) (suc i) n l s h =
     let own = dirty_node m.place (length known) (dirty_among known m.links.items) in
     let one = length-append known (own ∷ []) in
-    let other = length-append seen (view_of seen m ∷ []) in
+    let other = length-append seen (node_view_of seen m ∷ []) in
     let place : length (known ++ own ∷ []) + i ≡ length known + suc i = omega (arith, one) in
     let P : ℕ → Type 0 = λ k. slice_get (dirty_behind known (m ∷ ms)) k ≡ Some (dirty_node n.place k (dirty_among (dirty_behind known (m ∷ ms)) n.links.items)) in
-    subst P place (dirty_opened_behind f (seen ++ view_of seen m ∷ []) (known ++ own ∷ []) ms i n (omega (arith, one, other, l)) s h)
+    subst P place (dirty_opened_behind f (seen ++ node_view_of seen m ∷ []) (known ++ own ∷ []) ms i n (omega (arith, one, other, l)) s h)
 
-pub dirty_opened : (f : ℕ) (nodes : List TableNode) (i : ℕ) (n : TableNode) → AreSoundViews f (views nodes) → slice_get nodes i ≡ Some n
+pub dirty_opened : (f : ℕ) (nodes : List TableNode) (i : ℕ) (n : TableNode) → AreSoundViews f (node_views nodes) → slice_get nodes i ≡ Some n
     → dirty_from nodes i ≡ dirty_node n.place i (dirty_among (dirty_lists nodes) n.links.items)
 dirty_opened f nodes i n s h =
     let P : ℕ → Type 0 = λ k. slice_get (dirty_lists nodes) k ≡ Some (dirty_node n.place k (dirty_among (dirty_lists nodes) n.links.items)) in
@@ -203,11 +203,15 @@ option_there : (o : Option (List ℕ)) (i : ℕ) → unwrap_or o [] ≡ i ∷ []
 option_there None i h = absurd cc
 option_there (Some d) i h = ap Some h
 
+pub lists_given : (nodes : List TableNode) (number : ℕ) (p : NodePlace) (n : TableNode) → slice_get nodes number ≡ Some n → n.place ≡ None
+    → dirty_from nodes number ≡ number ∷ [] → dirty_lists (with_place number p nodes) ≡ map (without_number number) (dirty_lists nodes)
+lists_given nodes number p n h d alone =
+    let start : length {A = List ℕ} [] + number ≡ number = omega arith in
+    given_dirty number [] nodes number p n refl start h d (option_there (slice_get (dirty_lists nodes) number) number alone)
+
 pub dirty_given : (nodes : List TableNode) (number : ℕ) (p : NodePlace) (n : TableNode) (root : Option Root) → slice_get nodes number ≡ Some n → n.place ≡ None
     → dirty_from nodes number ≡ number ∷ [] → dirty_below (with_place number p nodes) root ≡ without_number number (dirty_below nodes root)
 dirty_given nodes number p n None h d alone = refl
 dirty_given nodes number p n (Some root) h d alone =
-    let start : length {A = List ℕ} [] + number ≡ number = omega arith in
-    let there = option_there (slice_get (dirty_lists nodes) number) number alone in
-    ap (λ (ds : List (List ℕ)). unwrap_or (slice_get ds root.number) []) (given_dirty number [] nodes number p n refl start h d there)
+    ap (λ (ds : List (List ℕ)). unwrap_or (slice_get ds root.number) []) (lists_given nodes number p n h d alone)
     ∙ nothing number (dirty_lists nodes) root.number

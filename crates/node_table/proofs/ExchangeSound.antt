@@ -10,7 +10,7 @@ use Rattle.index_media.specs.InsertionSound.{AreKeys, fit_node, fits_node}
 use Rattle.index_media.specs.KeyedKeys.{AreKeysBounded}
 use Rattle.index_media.specs.KeyedRemoval.{removed_by_keys, replaced_by_keys}
 use Rattle.index_media.specs.KeyedRow.{KeyedRow, bare}
-use Rattle.node_table.specs.Exchange.{IsExchange, exchanged}
+use Rattle.node_table.specs.Exchange.{IsExchange, exchanged_row}
 use Rattle.table_nodes.specs.Sound.{IsSoundView}
 
 -- what a change of rows keeps
@@ -31,7 +31,7 @@ kept_sound f level change row k s some =
 
 pub exchange_sound : (f level : ℕ) (gone : Leaf) (come : Option Leaf) (row : KeyedRow) → Keeps (λ r. removed_by_keys gone r)
     → ((new : Leaf) → leaf_rank new ≡ leaf_rank gone → IsKey new.key → Keeps (λ r. replaced_by_keys gone new r)) → IsExchange gone come
-    → IsSoundView f (record { level = level; place = None; children = row }) → 0 < count (bare (exchanged gone come row))
-    → IsSoundView f (record { level = level; place = None; children = exchanged gone come row })
+    → IsSoundView f (record { level = level; place = None; children = row }) → 0 < count (bare (exchanged_row gone come row))
+    → IsSoundView f (record { level = level; place = None; children = exchanged_row gone come row })
 exchange_sound f level gone None row a b k s some = kept_sound f level (λ r. removed_by_keys gone r) row a s some
 exchange_sound f level gone (Some new) row a b k s some = kept_sound f level (λ r. replaced_by_keys gone new r) row (b new k.0 k.1) s some

@@ -12,10 +12,10 @@ use Rattle.index_media.specs.KeyedBounds.{most_weaken, within_start, lower_least
 use Rattle.index_media.specs.KeyedKeys.{key_before, AreKeysBounded}
 use Rattle.index_media.specs.KeyedRemoval.{removed_by_keys, replaced_by_keys}
 use Rattle.index_media.specs.KeyedRow.{KeyedRow, no_more, leaf_in, node_in, bare}
-use Rattle.node_table.specs.Exchange.{exchanged, exchanged_node, links_to}
-use Rattle.table_nodes.specs.NodeView.{NodeView, link_key, links_begin, node_before, linked_before, row_of, views, children_in}
+use Rattle.node_table.specs.Exchange.{exchanged_row, exchanged_node, links_to}
+use Rattle.table_nodes.specs.NodeView.{NodeView, link_key, links_begin, node_before, linked_before, row_of, node_views, children_in}
 use Rattle.table_nodes.specs.Sound.{IsSoundView}
-use Rattle.table_nodes.specs.Links.{row_before, AreLinksIn, IsAdded}
+use Rattle.table_nodes.specs.Links.{row_before, AreLinksIn, AreNodesAdded}
 use Rattle.node_table.specs.Walk.{inside}
 use Rattle.table_nodes.specs.declared.link.Link.{Link}
 use Rattle.table_nodes.specs.declared.link.Link.TheVariants.{ToLeaf, ToNode}
@@ -27,13 +27,13 @@ use Rattle.table_nodes.specs.LinkLaws.{links_kept, links_in_append, before_none,
 use Rattle.node_table.proofs.Staged.{links_counted}
 
 -- nothing gives way where nothing stands
-pub exchanged_none : (gone : Leaf) (come : Option Leaf) → exchanged gone come no_more ≡ no_more
+pub exchanged_none : (gone : Leaf) (come : Option Leaf) → exchanged_row gone come no_more ≡ no_more
 exchanged_none gone None = refl
 exchanged_none gone (Some x) = refl
 
 -- a link below which the leaf isn't stays
 node_out : (gone : Leaf) (come : Option Leaf) (key : Key) (o : Option NodeView) (rest : KeyedRow) → holds gone (contents (bare (children_in o))) ≡ false
-    → exchanged gone come (node_before key o rest) ≡ node_before key o (exchanged gone come rest)
+    → exchanged_row gone come (node_before key o rest) ≡ node_before key o (exchanged_row gone come rest)
 node_out gone None key None rest h = refl
 node_out gone None key (Some v) rest h = rw h refl
 node_out gone (Some come) key None rest h = refl
@@ -46,13 +46,13 @@ holds_one gone x h = elim (cases_Bool (same_leaf x gone)) [
 ]
 
 pub link_out : (seen : List NodeView) (gone : Leaf) (come : Option Leaf) (link : Link) (rest : KeyedRow) → holds gone (contents (bare (inside seen link))) ≡ false
-    → exchanged gone come (linked_before seen link rest) ≡ linked_before seen link (exchanged gone come rest)
+    → exchanged_row gone come (linked_before seen link rest) ≡ linked_before seen link (exchanged_row gone come rest)
 link_out seen gone None (ToLeaf x) rest h = rw (holds_one gone x h) refl
 link_out seen gone (Some come) (ToLeaf x) rest h = rw (holds_one gone x h) refl
 link_out seen gone come (ToNode key number) rest h = node_out gone come key (slice_get seen number) rest h
 
 -- the leaf itself gives way
-pub leaf_out : (seen : List NodeView) (gone x : Leaf) (come : Option Leaf) (rest : KeyedRow) → same_leaf x gone ≡ true → exchanged gone come (leaf_in x rest) ≡ row_before seen (links_to come) rest
+pub leaf_out : (seen : List NodeView) (gone x : Leaf) (come : Option Leaf) (rest : KeyedRow) → same_leaf x gone ≡ true → exchanged_row gone come (leaf_in x rest) ≡ row_before seen (links_to come) rest
 leaf_out seen gone x None rest h = rw h refl
 leaf_out seen gone x (Some come) rest h = rw h refl
 
@@ -79,14 +79,14 @@ replaced_same gone come (node_in key place c rest) h = elim (cases_Bool (holds g
   | inr e ↦ rw e (ap (node_in key place c) (replaced_same gone come rest (sym (holds_second gone (contents (bare c)) (contents (bare rest)) e) ∙ h)))
 ]
 
-pub exchanged_same : (gone : Leaf) (come : Option Leaf) (row : KeyedRow) → holds gone (contents (bare row)) ≡ false → exchanged gone come row ≡ row
+pub exchanged_same : (gone : Leaf) (come : Option Leaf) (row : KeyedRow) → holds gone (contents (bare row)) ≡ false → exchanged_row gone come row ≡ row
 exchanged_same gone None row h = removed_same gone row h
 exchanged_same gone (Some come) row h = replaced_same gone come row h
 
 -- what stands for a node below which the leaf is: nothing, or the node with what is left of its children
 pub node_gone : (gone : Leaf) (come : Option Leaf) (key : Key) (o : Option NodeView) (rest : KeyedRow)
     → ((gone come : Leaf) (row : KeyedRow) → count (bare (replaced_by_keys gone come row)) ≡ count (bare row)) → 0 < count (bare (children_in o))
-    → holds gone (contents (bare (children_in o))) ≡ true → count (bare (exchanged gone come (children_in o))) ≡ 0 → exchanged_node gone come key o rest ≡ rest
+    → holds gone (contents (bare (children_in o))) ≡ true → count (bare (exchanged_row gone come (children_in o))) ≡ 0 → exchanged_node gone come key o rest ≡ rest
 node_gone gone come key None rest n s h z = absurd (omega (arith, s))
 node_gone gone None key (Some v) rest n s h z =
     let e : (count (bare (removed_by_keys gone v.children)) == 0) ≡ true = grind (arith, nat_tests, z) in
@@ -94,7 +94,7 @@ node_gone gone None key (Some v) rest n s h z =
 node_gone gone (Some come) key (Some v) rest n s h z = let same = n gone come v.children in absurd (omega (arith, s, z, same))
 
 pub node_left : (gone : Leaf) (come : Option Leaf) (key : Key) (o : Option NodeView) (rest : KeyedRow) → holds gone (contents (bare (children_in o))) ≡ true
-    → 0 < count (bare (exchanged gone come (children_in o))) → exchanged_node gone come key o rest ≡ node_in key None (exchanged gone come (children_in o)) rest
+    → 0 < count (bare (exchanged_row gone come (children_in o))) → exchanged_node gone come key o rest ≡ node_in key None (exchanged_row gone come (children_in o)) rest
 node_left gone come key None rest h s = absurd cc
 node_left gone None key (Some v) rest h s =
     let e : (count (bare (removed_by_keys gone v.children)) == 0) ≡ false = grind (arith, nat_tests, s) in
@@ -102,7 +102,7 @@ node_left gone None key (Some v) rest h s =
 node_left gone (Some come) key (Some v) rest h s = rw h refl
 
 pub node_there : (gone : Leaf) (come : Option Leaf) (key : Key) (o : Option NodeView) (rest : KeyedRow) → holds gone (contents (bare (children_in o))) ≡ true
-    → exchanged_node gone come key o rest ≡ exchanged gone come (node_before key o rest)
+    → exchanged_node gone come key o rest ≡ exchanged_row gone come (node_before key o rest)
 node_there gone come key o rest h = rw h refl
 
 pub node_stays : (gone : Leaf) (come : Option Leaf) (key : Key) (o : Option NodeView) (rest : KeyedRow) → holds gone (contents (bare (children_in o))) ≡ false
@@ -145,56 +145,56 @@ other_leaf seen z x h = rw h refl
 
 -- links that are pushed
 pub among_out : (seen : List NodeView) (gone : Leaf) (come : Option Leaf) (link : Link) (rest links made : List Link) → links ≡ link ∷ rest → holds gone (contents (bare (inside seen link))) ≡ false
-    → row_before seen (made ++ link ∷ []) (exchanged gone come (row_of seen rest)) ≡ row_before seen made (exchanged gone come (row_of seen links))
+    → row_before seen (made ++ link ∷ []) (exchanged_row gone come (row_of seen rest)) ≡ row_before seen made (exchanged_row gone come (row_of seen links))
 among_out seen gone come link rest links made is h =
-    before_append seen made (link ∷ []) (exchanged gone come (row_of seen rest)) ∙ ap (row_before seen made) (sym (link_out seen gone come link (row_of seen rest) h))
-    ∙ ap (λ v. row_before seen made (exchanged gone come (row_of seen v))) (sym is)
+    before_append seen made (link ∷ []) (exchanged_row gone come (row_of seen rest)) ∙ ap (row_before seen made) (sym (link_out seen gone come link (row_of seen rest) h))
+    ∙ ap (λ v. row_before seen made (exchanged_row gone come (row_of seen v))) (sym is)
 
 pub among_taken : (seen : List NodeView) (gone x : Leaf) (come : Option Leaf) (rest links made : List Link) → links ≡ ToLeaf x ∷ rest → same_leaf x gone ≡ true
-    → row_before seen ((made ++ links_to come) ++ rest) no_more ≡ row_before seen made (exchanged gone come (row_of seen links))
+    → row_before seen ((made ++ links_to come) ++ rest) no_more ≡ row_before seen made (exchanged_row gone come (row_of seen links))
 among_taken seen gone x come rest links made is h =
     before_append seen (made ++ links_to come) rest no_more ∙ ap (row_before seen (made ++ links_to come)) (before_none seen rest)
     ∙ before_append seen made (links_to come) (row_of seen rest) ∙ ap (row_before seen made) (sym (leaf_out seen gone x come (row_of seen rest) h))
-    ∙ ap (λ v. row_before seen made (exchanged gone come (row_of seen v))) (sym is)
+    ∙ ap (λ v. row_before seen made (exchanged_row gone come (row_of seen v))) (sym is)
 
 -- what exchange_below makes, before any row
 abbrev pub IsPushed : List NodeView → List NodeView → Leaf → Option Leaf → Key → ℕ → List Link → List Link → Type 0
 IsPushed old now gone come key number made more =
     (r : KeyedRow) → row_before now more r ≡ row_before old made (exchanged_node gone come key (slice_get old number) r)
 
-pub among_below : (f : ℕ) (old now : List TableNode) (gone : Leaf) (come : Option Leaf) (key : Key) (number : ℕ) (rest links made more : List Link) → links ≡ ToNode key number ∷ rest → IsAdded old now
-    → fits f (bare (row_of (views old) links)) ≡ true → holds gone (contents (bare (children_in (slice_get (views old) number)))) ≡ true
-    → IsPushed (views old) (views now) gone come key number made more
-    → row_before (views now) (more ++ rest) no_more ≡ row_before (views old) made (exchanged gone come (row_of (views old) links))
+pub among_below : (f : ℕ) (old now : List TableNode) (gone : Leaf) (come : Option Leaf) (key : Key) (number : ℕ) (rest links made more : List Link) → links ≡ ToNode key number ∷ rest → AreNodesAdded old now
+    → fits f (bare (row_of (node_views old) links)) ≡ true → holds gone (contents (bare (children_in (slice_get (node_views old) number)))) ≡ true
+    → IsPushed (node_views old) (node_views now) gone come key number made more
+    → row_before (node_views now) (more ++ rest) no_more ≡ row_before (node_views old) made (exchanged_row gone come (row_of (node_views old) links))
 among_below f old now gone come key number rest links made more is a h s m =
     let kept = links_kept old now rest no_more a (rest_there f old (ToNode key number) rest links is h) in
-    before_append (views now) more rest no_more ∙ m (row_before (views now) rest no_more)
-    ∙ ap (λ r. row_before (views old) made (exchanged_node gone come key (slice_get (views old) number) r)) (kept ∙ before_none (views old) rest)
-    ∙ ap (row_before (views old) made) (node_there gone come key (slice_get (views old) number) (row_of (views old) rest) s)
-    ∙ ap (λ v. row_before (views old) made (exchanged gone come (row_of (views old) v))) (sym is)
+    before_append (node_views now) more rest no_more ∙ m (row_before (node_views now) rest no_more)
+    ∙ ap (λ r. row_before (node_views old) made (exchanged_node gone come key (slice_get (node_views old) number) r)) (kept ∙ before_none (node_views old) rest)
+    ∙ ap (row_before (node_views old) made) (node_there gone come key (slice_get (node_views old) number) (row_of (node_views old) rest) s)
+    ∙ ap (λ v. row_before (node_views old) made (exchanged_row gone come (row_of (node_views old) v))) (sym is)
 
-pub among_beside : (f : ℕ) (old now : List TableNode) (gone : Leaf) (come : Option Leaf) (key : Key) (number : ℕ) (rest links made more : List Link) → links ≡ ToNode key number ∷ rest → IsAdded old now
-    → fits f (bare (row_of (views old) links)) ≡ true → holds gone (contents (bare (children_in (slice_get (views old) number)))) ≡ false
-    → holds gone (contents (bare (row_of (views old) links))) ≡ false → IsPushed (views old) (views now) gone come key number made more
-    → row_before (views now) (more ++ rest) no_more ≡ row_before (views old) made (exchanged gone come (row_of (views old) links))
+pub among_beside : (f : ℕ) (old now : List TableNode) (gone : Leaf) (come : Option Leaf) (key : Key) (number : ℕ) (rest links made more : List Link) → links ≡ ToNode key number ∷ rest → AreNodesAdded old now
+    → fits f (bare (row_of (node_views old) links)) ≡ true → holds gone (contents (bare (children_in (slice_get (node_views old) number)))) ≡ false
+    → holds gone (contents (bare (row_of (node_views old) links))) ≡ false → IsPushed (node_views old) (node_views now) gone come key number made more
+    → row_before (node_views now) (more ++ rest) no_more ≡ row_before (node_views old) made (exchanged_row gone come (row_of (node_views old) links))
 among_beside f old now gone come key number rest links made more is a h s none m =
     let kept = links_kept old now rest no_more a (rest_there f old (ToNode key number) rest links is h) in
-    before_append (views now) more rest no_more ∙ m (row_before (views now) rest no_more)
-    ∙ ap (λ r. row_before (views old) made (exchanged_node gone come key (slice_get (views old) number) r)) (kept ∙ before_none (views old) rest)
-    ∙ ap (row_before (views old) made) (node_stays gone come key (slice_get (views old) number) (row_of (views old) rest) s)
-    ∙ ap (λ v. row_before (views old) made (row_of (views old) v)) (sym is)
-    ∙ ap (row_before (views old) made) (sym (exchanged_same gone come (row_of (views old) links) none))
+    before_append (node_views now) more rest no_more ∙ m (row_before (node_views now) rest no_more)
+    ∙ ap (λ r. row_before (node_views old) made (exchanged_node gone come key (slice_get (node_views old) number) r)) (kept ∙ before_none (node_views old) rest)
+    ∙ ap (row_before (node_views old) made) (node_stays gone come key (slice_get (node_views old) number) (row_of (node_views old) rest) s)
+    ∙ ap (λ v. row_before (node_views old) made (row_of (node_views old) v)) (sym is)
+    ∙ ap (row_before (node_views old) made) (sym (exchanged_same gone come (row_of (node_views old) links) none))
 
-pub among_on : (f : ℕ) (old now : List TableNode) (gone : Leaf) (come : Option Leaf) (key : Key) (number : ℕ) (rest links made more : List Link) → links ≡ ToNode key number ∷ rest → IsAdded old now
-    → fits f (bare (row_of (views old) links)) ≡ true → fits f (bare (row_of (views old) rest)) ≡ true → holds gone (contents (bare (children_in (slice_get (views old) number)))) ≡ false
-    → IsPushed (views old) (views now) gone come key number made more
-    → row_before (views now) more (exchanged gone come (row_of (views now) rest)) ≡ row_before (views old) made (exchanged gone come (row_of (views old) links))
+pub among_on : (f : ℕ) (old now : List TableNode) (gone : Leaf) (come : Option Leaf) (key : Key) (number : ℕ) (rest links made more : List Link) → links ≡ ToNode key number ∷ rest → AreNodesAdded old now
+    → fits f (bare (row_of (node_views old) links)) ≡ true → fits f (bare (row_of (node_views old) rest)) ≡ true → holds gone (contents (bare (children_in (slice_get (node_views old) number)))) ≡ false
+    → IsPushed (node_views old) (node_views now) gone come key number made more
+    → row_before (node_views now) more (exchanged_row gone come (row_of (node_views now) rest)) ≡ row_before (node_views old) made (exchanged_row gone come (row_of (node_views old) links))
 among_on f old now gone come key number rest links made more is a h g s m =
-    m (exchanged gone come (row_of (views now) rest))
-    ∙ ap (λ r. row_before (views old) made (exchanged_node gone come key (slice_get (views old) number) (exchanged gone come r))) (row_kept f old now rest a g)
-    ∙ ap (row_before (views old) made) (node_stays gone come key (slice_get (views old) number) (exchanged gone come (row_of (views old) rest)) s)
-    ∙ ap (row_before (views old) made) (sym (node_out gone come key (slice_get (views old) number) (row_of (views old) rest) s))
-    ∙ ap (λ v. row_before (views old) made (exchanged gone come (row_of (views old) v))) (sym is)
+    m (exchanged_row gone come (row_of (node_views now) rest))
+    ∙ ap (λ r. row_before (node_views old) made (exchanged_node gone come key (slice_get (node_views old) number) (exchanged_row gone come r))) (row_kept f old now rest a g)
+    ∙ ap (row_before (node_views old) made) (node_stays gone come key (slice_get (node_views old) number) (exchanged_row gone come (row_of (node_views old) rest)) s)
+    ∙ ap (row_before (node_views old) made) (sym (node_out gone come key (slice_get (node_views old) number) (row_of (node_views old) rest) s))
+    ∙ ap (λ v. row_before (node_views old) made (exchanged_row gone come (row_of (node_views old) v))) (sym is)
 
 -- the links to the leaf that comes lead to no node
 pub links_to_in : (n : ℕ) (come : Option Leaf) → AreLinksIn n (links_to come)
@@ -202,12 +202,12 @@ links_to_in n None = tt
 links_to_in n (Some come) = (tt, tt)
 
 -- a row whose nodes have children is the same over more nodes, and so are its bounds and its size
-pub rest_kept : (f f' : ℕ) (old now : List TableNode) (rest : List Link) → f' ≡ f → IsAdded old now → fits f (bare (row_of (views old) rest)) ≡ true → AreKeysBounded 0 None (row_of (views old) rest)
-    → (fits f' (bare (row_of (views now) rest)) ≡ true) × AreKeysBounded 0 None (row_of (views now) rest)
+pub rest_kept : (f f' : ℕ) (old now : List TableNode) (rest : List Link) → f' ≡ f → AreNodesAdded old now → fits f (bare (row_of (node_views old) rest)) ≡ true → AreKeysBounded 0 None (row_of (node_views old) rest)
+    → (fits f' (bare (row_of (node_views now) rest)) ≡ true) × AreKeysBounded 0 None (row_of (node_views now) rest)
 rest_kept f f' old now rest e a g b =
     let same = row_kept f old now rest a g in
     let P : KeyedRow → Type 0 = λ r. (fits f (bare r) ≡ true) × AreKeysBounded 0 None r in
-    let Q : ℕ → Type 0 = λ n. (fits n (bare (row_of (views now) rest)) ≡ true) × AreKeysBounded 0 None (row_of (views now) rest) in
+    let Q : ℕ → Type 0 = λ n. (fits n (bare (row_of (node_views now) rest)) ≡ true) × AreKeysBounded 0 None (row_of (node_views now) rest) in
     subst Q (sym e) (subst P (sym same) (g, b))
 
 -- where the links behind begin above the rank, the leaf isn't there
@@ -217,44 +217,44 @@ none_among seen at z link rest links is e h b out =
     sym (found_outside seen z link rest links is out) ∙ holds_nowhere seen at (key_rank (link_key link)) z rest e (rest_bounded seen link rest links is h) b
 
 -- what is pushed for a node below which the leaf isn't, for one that this empties, and for one that has children left
-pub below_stays : (old now : List TableNode) (gone : Leaf) (come : Option Leaf) (key : Key) (number : ℕ) (row : KeyedRow) (made : List Link) (rest : KeyedRow) → number < length old → IsAdded old now
-    → AreLinksIn (length old) made → children_in (slice_get (views old) number) ≡ row → holds gone (contents (bare row)) ≡ false
-    → row_before (views now) (made ++ ToNode key number ∷ []) rest ≡ row_before (views old) made (exchanged_node gone come key (slice_get (views old) number) rest)
+pub below_stays : (old now : List TableNode) (gone : Leaf) (come : Option Leaf) (key : Key) (number : ℕ) (row : KeyedRow) (made : List Link) (rest : KeyedRow) → number < length old → AreNodesAdded old now
+    → AreLinksIn (length old) made → children_in (slice_get (node_views old) number) ≡ row → holds gone (contents (bare row)) ≡ false
+    → row_before (node_views now) (made ++ ToNode key number ∷ []) rest ≡ row_before (node_views old) made (exchanged_node gone come key (slice_get (node_views old) number) rest)
 below_stays old now gone come key number row made rest own a h e s =
     let P : KeyedRow → Type 0 = λ r. holds gone (contents (bare r)) ≡ false in
     links_kept old now (made ++ ToNode key number ∷ []) rest a (links_in_append (length old) made (ToNode key number ∷ []) h (own, tt))
-    ∙ before_append (views old) made (ToNode key number ∷ []) rest
-    ∙ ap (row_before (views old) made) (sym (node_stays gone come key (slice_get (views old) number) rest (subst P (sym e) s)))
+    ∙ before_append (node_views old) made (ToNode key number ∷ []) rest
+    ∙ ap (row_before (node_views old) made) (sym (node_stays gone come key (slice_get (node_views old) number) rest (subst P (sym e) s)))
 
 pub below_gone : (old now : List TableNode) (gone : Leaf) (come : Option Leaf) (key : Key) (o : Option NodeView) (row : KeyedRow) (made links : List Link) (rest : KeyedRow)
-    → ((gone come : Leaf) (row : KeyedRow) → count (bare (replaced_by_keys gone come row)) ≡ count (bare row)) → IsAdded old now → AreLinksIn (length old) made
-    → children_in o ≡ row → 0 < count (bare row) → holds gone (contents (bare row)) ≡ true → row_of (views now) links ≡ exchanged gone come row → length links ≡ 0
-    → row_before (views now) made rest ≡ row_before (views old) made (exchanged_node gone come key o rest)
+    → ((gone come : Leaf) (row : KeyedRow) → count (bare (replaced_by_keys gone come row)) ≡ count (bare row)) → AreNodesAdded old now → AreLinksIn (length old) made
+    → children_in o ≡ row → 0 < count (bare row) → holds gone (contents (bare row)) ≡ true → row_of (node_views now) links ≡ exchanged_row gone come row → length links ≡ 0
+    → row_before (node_views now) made rest ≡ row_before (node_views old) made (exchanged_node gone come key o rest)
 below_gone old now gone come key o row made links rest n a h e some s r z =
-    let number = links_counted (views now) links in
+    let number = links_counted (node_views now) links in
     let left = ap (λ (v : KeyedRow). count (bare v)) r in
-    let none : count (bare (exchanged gone come row)) ≡ 0 = omega (arith, number, left, z) in
-    let P : KeyedRow → Type 0 = λ v. (0 < count (bare v)) × (holds gone (contents (bare v)) ≡ true) × (count (bare (exchanged gone come v)) ≡ 0) in
+    let none : count (bare (exchanged_row gone come row)) ≡ 0 = omega (arith, number, left, z) in
+    let P : KeyedRow → Type 0 = λ v. (0 < count (bare v)) × (holds gone (contents (bare v)) ≡ true) × (count (bare (exchanged_row gone come v)) ≡ 0) in
     let all = subst P (sym e) (some, s, none) in
-    links_kept old now made rest a h ∙ ap (row_before (views old) made) (sym (node_gone gone come key o rest n all.0 all.1 all.2))
+    links_kept old now made rest a h ∙ ap (row_before (node_views old) made) (sym (node_gone gone come key o rest n all.0 all.1 all.2))
 
-pub below_left : (old now : List TableNode) (gone : Leaf) (come : Option Leaf) (key : Key) (o : Option NodeView) (row : KeyedRow) (made links : List Link) (rest : KeyedRow) → IsAdded old now
-    → AreLinksIn (length old) made → children_in o ≡ row → holds gone (contents (bare row)) ≡ true → row_of (views now) links ≡ exchanged gone come row → 0 < length links
-    → row_before (views now) made (node_in key None (row_of (views now) links) rest) ≡ row_before (views old) made (exchanged_node gone come key o rest)
+pub below_left : (old now : List TableNode) (gone : Leaf) (come : Option Leaf) (key : Key) (o : Option NodeView) (row : KeyedRow) (made links : List Link) (rest : KeyedRow) → AreNodesAdded old now
+    → AreLinksIn (length old) made → children_in o ≡ row → holds gone (contents (bare row)) ≡ true → row_of (node_views now) links ≡ exchanged_row gone come row → 0 < length links
+    → row_before (node_views now) made (node_in key None (row_of (node_views now) links) rest) ≡ row_before (node_views old) made (exchanged_node gone come key o rest)
 below_left old now gone come key o row made links rest a h e s r some =
-    let number = links_counted (views now) links in
+    let number = links_counted (node_views now) links in
     let left = ap (λ (v : KeyedRow). count (bare v)) r in
-    let P : KeyedRow → Type 0 = λ v. (holds gone (contents (bare v)) ≡ true) × (0 < count (bare (exchanged gone come v))) in
+    let P : KeyedRow → Type 0 = λ v. (holds gone (contents (bare v)) ≡ true) × (0 < count (bare (exchanged_row gone come v))) in
     let all = subst P (sym e) (s, omega (arith, number, left, some)) in
-    links_kept old now made (node_in key None (row_of (views now) links) rest) a h
-    ∙ ap (λ v. row_before (views old) made (node_in key None v rest)) (r ∙ ap (exchanged gone come) (sym e))
-    ∙ ap (row_before (views old) made) (sym (node_left gone come key o rest all.0 all.1))
+    links_kept old now made (node_in key None (row_of (node_views now) links) rest) a h
+    ∙ ap (λ v. row_before (node_views old) made (node_in key None v rest)) (r ∙ ap (exchanged_row gone come) (sym e))
+    ∙ ap (row_before (node_views old) made) (sym (node_left gone come key o rest all.0 all.1))
 
 pub left_sound : (f f' level : ℕ) (now : List TableNode) (left : KeyedRow) (links : List Link) → (0 < count (bare left) → IsSoundView f (record { level = level; place = None; children = left })) → f' ≡ f
-    → row_of (views now) links ≡ left → 0 < length links → IsSoundView f' (record { level = level; place = None; children = row_of (views now) links })
+    → row_of (node_views now) links ≡ left → 0 < length links → IsSoundView f' (record { level = level; place = None; children = row_of (node_views now) links })
 left_sound f f' level now left links s e r some =
-    let number = links_counted (views now) links in
+    let number = links_counted (node_views now) links in
     let same = ap (λ (v : KeyedRow). count (bare v)) r in
     let P : KeyedRow → Type 0 = λ v. IsSoundView f (record { level = level; place = None; children = v }) in
-    let Q : ℕ → Type 0 = λ n. IsSoundView n (record { level = level; place = None; children = row_of (views now) links }) in
+    let Q : ℕ → Type 0 = λ n. IsSoundView n (record { level = level; place = None; children = row_of (node_views now) links }) in
     subst Q (sym e) (subst P (sym r) (s (omega (arith, number, same, some))))

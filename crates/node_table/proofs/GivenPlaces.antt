@@ -14,13 +14,11 @@ use Rattle.index_media.specs.PlacedRow.{Stretch}
 use Rattle.told_value.specs.declared.told.Told.{Told}
 use Rattle.table_nodes.specs.Beyond.{children_by, is_loaded, are_loaded, row_told, branch_at_place}
 use Rattle.table_nodes.specs.BeyondLaws.{loaded_row}
-use Rattle.node_table.specs.Clean.{is_clean_below, are_clean_below}
-use Rattle.node_table.specs.Counting.{counts_of, counts_of_all}
-use Rattle.table_nodes.specs.NodeView.{NodeView, stretch_at, node_before, linked_before, row_of, view_of, views_behind, views, children_in, tree_at, IsRootIn}
+use Rattle.table_nodes.specs.Clean.{is_clean_below, are_clean_below}
+use Rattle.table_nodes.specs.NodeView.{NodeView, stretch_at, node_before, linked_before, row_of, node_view_of, views_behind, node_views, children_in, tree_at, IsRootIn}
 use Rattle.node_table.specs.Placing.{with_place, IsPlacedRow}
 use Rattle.table_nodes.specs.Sound.{IsSoundView, AreSoundViews}
 use Rattle.node_table.specs.Staging.{IsSoundRoot}
-use Rattle.node_table.specs.declared.counts.TreeCounts.{TreeCounts}
 use Rattle.table_nodes.specs.declared.link.Link.{Link}
 use Rattle.table_nodes.specs.declared.link.Link.TheVariants.{ToLeaf, ToNode}
 use Rattle.table_nodes.specs.declared.node.NodePlace.{NodePlace}
@@ -28,6 +26,7 @@ use Rattle.table_nodes.specs.declared.node.Root.{Root}
 use Rattle.table_nodes.specs.declared.node.TableNode.{TableNode}
 use Rattle.table_nodes.specs.declared.seen.MediumSeen.{MediumSeen}
 use Rattle.table_nodes.specs.NodeViewLaws.{get_seam, views_more}
+use Rattle.node_cache.specs.CleanRows.{and_left, and_right, clean_node}
 
 -- nothing but places changes of a row
 pub placed_same : (p : NodePlace) (b row : KeyedRow) → IsPlacedRow p b row row
@@ -64,21 +63,6 @@ placed_keys p b (node_in key old children rest) new h k =
     subst AreKeys (sym h.3) (k.0, placed_keys p b children h.1 h.5 k.1, placed_keys p b rest h.2 h.6 k.2)
 
 -- where all is clean, nothing changes
-pub and_left : (a b : Bool) → (a && b) ≡ true → a ≡ true
-and_left true b h = refl
-and_left false b h = absurd cc
-
-pub and_right : (a b : Bool) → (a && b) ≡ true → b ≡ true
-and_right true b h = h
-and_right false b h = absurd cc
-
--- a clean node of a row, what is below it, and what is behind it
-pub clean_node : (key : Key) (place : Option Stretch) (children rest : KeyedRow) → is_clean_row (node_in key place children rest) ≡ true
-    → (is_some place ≡ true) × (is_clean_row children ≡ true) × (is_clean_row rest ≡ true)
-clean_node key place children rest h =
-    let more = and_right (is_some place) (is_clean_row children && is_clean_row rest) h in
-    (and_left (is_some place) (is_clean_row children && is_clean_row rest) h, and_left (is_clean_row children) (is_clean_row rest) more, and_right (is_clean_row children) (is_clean_row rest) more)
-
 clean_place : (p : NodePlace) (b children : KeyedRow) (old now : Option Stretch) → is_some old ≡ true → (now ≡ old) ⊎ ((old ≡ None) × (now ≡ stretch_at (Some p)) × (children ≡ b)) → now ≡ old
 clean_place p b children None now s h = absurd cc
 clean_place p b children (Some x) now s (inl e) = e
@@ -151,8 +135,8 @@ children_placed p b vs ws links level (Some q) (Some told) h = placed_same p b (
 behind_placed : (p : NodePlace) (b : KeyedRow) (vs ws : List NodeView) (nodes : List TableNode) → ArePlacedViews p b vs ws → ArePlacedViews p b (views_behind vs nodes) (views_behind ws nodes)
 behind_placed p b vs ws [] h = h
 behind_placed p b vs ws (n ∷ ns) h =
-    let own : IsPlacedView p b (view_of vs n) (view_of ws n) = record { level = refl; place = inl refl; children = children_placed p b vs ws n.links.items n.level n.place n.beyond h } in
-    behind_placed p b (vs ++ view_of vs n ∷ []) (ws ++ view_of ws n ∷ []) ns (push_view p b vs ws (view_of vs n) (view_of ws n) h own)
+    let own : IsPlacedView p b (node_view_of vs n) (node_view_of ws n) = record { level = refl; place = inl refl; children = children_placed p b vs ws n.links.items n.level n.place n.beyond h } in
+    behind_placed p b (vs ++ node_view_of vs n ∷ []) (ws ++ node_view_of ws n ∷ []) ns (push_view p b vs ws (node_view_of vs n) (node_view_of ws n) h own)
 
 -- what is seen of a table in which a dirty node was given a place
 record GivenPlace (seen : List NodeView) (nodes : List TableNode) (number : ℕ) (p : NodePlace) (n : TableNode) : Type 0 where
@@ -170,9 +154,9 @@ seen_whole seen more whole v all =
     let start : length seen + 0 ≡ length seen = omega arith in
     ap (λ k. slice_get whole k) start ∙ ap (λ (xs : List NodeView). slice_get xs (length seen)) all ∙ get_seam seen v more
 
-seen_here : (seen : List NodeView) (m : TableNode) (ms : List TableNode) → slice_get (views_behind seen (m ∷ ms)) (length seen + 0) ≡ Some (view_of seen m)
+seen_here : (seen : List NodeView) (m : TableNode) (ms : List TableNode) → slice_get (views_behind seen (m ∷ ms)) (length seen + 0) ≡ Some (node_view_of seen m)
 seen_here seen m ms =
-    let v = view_of seen m in
+    let v = node_view_of seen m in
     let more = views_more (seen ++ v ∷ []) ms in
     seen_whole seen more.0 (views_behind seen (m ∷ ms)) v (more.1 ∙ append_assoc seen (v ∷ []) more.0)
 
@@ -182,10 +166,10 @@ given_place seen [] number p n h d l = absurd cc
 given_place seen (m ∷ ms) zero p n h d l =
     let same : m ≡ n = cc in
     let none : m.place ≡ None = ap (λ (x : TableNode). x.place) same ∙ d in
-    let v = view_of seen m in
+    let v = node_view_of seen m in
     let loaded : is_loaded m ≡ true = ap is_loaded same ∙ l in
     let after : TableNode = record m { place = Some p } in
-    let w = view_of seen after in
+    let w = node_view_of seen after in
     let row : w.children ≡ v.children = loaded_row seen after loaded ∙ sym (loaded_row seen m loaded) in
     let P : KeyedRow → Type 0 = λ r. IsPlacedRow p v.children v.children r in
     let here = seen_here seen m ms in
@@ -197,26 +181,26 @@ given_place seen (m ∷ ms) zero p n h d l =
           (push_view p v.children seen seen v w (same_views p v.children seen) (record { level = refl; place = inr (dirty, refl, refl); children = subst P (sym row) (placed_same p v.children v.children) }));
     }
 given_place seen (m ∷ ms) (suc k) p n h d l =
-    let one = length-append seen (view_of seen m ∷ []) in
-    let place : length (seen ++ view_of seen m ∷ []) + k ≡ length seen + suc k = omega (arith, one) in
-    let g = given_place (seen ++ view_of seen m ∷ []) ms k p n h d l in
+    let one = length-append seen (node_view_of seen m ∷ []) in
+    let place : length (seen ++ node_view_of seen m ∷ []) + k ≡ length seen + suc k = omega (arith, one) in
+    let g = given_place (seen ++ node_view_of seen m ∷ []) ms k p n h d l in
     let P : ℕ → Type 0 = λ i. slice_get (views_behind seen (m ∷ ms)) i ≡ Some (record { level = n.level; place = None; children = g.below }) in
     record { below = g.below; seen_there = subst P place g.seen_there; placed = g.placed }
 
 -- the same, by what is seen of the node
 pub placed_views : (nodes : List TableNode) (number : ℕ) (p : NodePlace) (n : TableNode) → slice_get nodes number ≡ Some n → n.place ≡ None → is_loaded n ≡ true
-    → ArePlacedViews p (children_in (slice_get (views nodes) number)) (views nodes) (views (with_place number p nodes))
+    → ArePlacedViews p (children_in (slice_get (node_views nodes) number)) (node_views nodes) (node_views (with_place number p nodes))
 placed_views nodes number p n h d l =
     let g = given_place [] nodes number p n h d l in
     let start : length {A = NodeView} [] + number ≡ number = omega arith in
-    let here = ap children_in (ap (λ k. slice_get (views nodes) k) (sym start) ∙ g.seen_there) in
-    let P : KeyedRow → Type 0 = λ b. ArePlacedViews p b (views nodes) (views (with_place number p nodes)) in
+    let here = ap children_in (ap (λ k. slice_get (node_views nodes) k) (sym start) ∙ g.seen_there) in
+    let P : KeyedRow → Type 0 = λ b. ArePlacedViews p b (node_views nodes) (node_views (with_place number p nodes)) in
     subst P (sym here) g.placed
 
-pub placed_tree : (p : NodePlace) (b : KeyedRow) (old new : List TableNode) (root : Option Root) → ArePlacedViews p b (views old) (views new) → IsPlacedRow p b (tree_at old root) (tree_at new root)
+pub placed_tree : (p : NodePlace) (b : KeyedRow) (old new : List TableNode) (root : Option Root) → ArePlacedViews p b (node_views old) (node_views new) → IsPlacedRow p b (tree_at old root) (tree_at new root)
 placed_tree p b old new None h = refl
 placed_tree p b old new (Some root) h =
-    node_placed p b root.key (slice_get (views old) root.number) (slice_get (views new) root.number) no_more no_more (get_placed p b (views old) (views new) root.number h) refl
+    node_placed p b root.key (slice_get (node_views old) root.number) (slice_get (node_views new) root.number) no_more no_more (get_placed p b (node_views old) (node_views new) root.number h) refl
 
 -- what holds of each node holds of it then
 view_sound : (f : ℕ) (p : NodePlace) (b : KeyedRow) (v w : NodeView) → IsPlacedView p b v w → IsSoundView f v → IsSoundView f w
@@ -250,14 +234,6 @@ views_settled p b (v ∷ vs) ws c h s =
     let more = views_settled p b vs h.1 c h.4 (and_right (is_clean_below v) (are_clean_below vs) s) in
     ap are_clean_below h.2 ∙ rw (own, more) refl
 
-pub views_counted : (f : ℕ) (p : NodePlace) (b : KeyedRow) (vs ws : List NodeView) → ArePlacedViews p b vs ws → counts_of_all f ws ≡ counts_of_all f vs
-views_counted f p b [] ws h = ap (counts_of_all f) h
-views_counted f p b (v ∷ vs) ws h =
-    let e = placed_bare p b v.children h.0.children h.3.children in
-    let own : counts_of f h.0.children ≡ counts_of f v.children = rw e refl in
-    let more = views_counted f p b vs h.1 h.4 in
-    ap (counts_of_all f) h.2 ∙ ap (λ (c : TreeCounts). c ∷ counts_of_all f h.1) own ∙ ap (λ (cs : List TreeCounts). counts_of f v.children ∷ cs) more
-
 pub with_loaded : (number : ℕ) (p : NodePlace) (nodes : List TableNode) → are_loaded (with_place number p nodes) ≡ are_loaded nodes
 with_loaded number p [] = refl
 with_loaded zero p (n ∷ ns) = refl
@@ -272,7 +248,7 @@ with_length number p [] = refl
 with_length zero p (n ∷ ns) = refl
 with_length (suc k) p (n ∷ ns) = let more = with_length k p ns in omega (arith, more)
 
-pub root_placed : (p : NodePlace) (b : KeyedRow) (old new : List TableNode) (root : Option Root) → length new ≡ length old → ArePlacedViews p b (views old) (views new)
+pub root_placed : (p : NodePlace) (b : KeyedRow) (old new : List TableNode) (root : Option Root) → length new ≡ length old → ArePlacedViews p b (node_views old) (node_views new)
     → IsSoundRoot old root → IsSoundRoot new root
 root_placed p b old new root l h s =
     let t = placed_tree p b old new root h in

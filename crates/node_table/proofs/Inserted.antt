@@ -10,9 +10,9 @@ use Rattle.index_media.specs.Insertion.{first_key, keyed_front, keyed_back, keye
 use Rattle.index_media.specs.InsertionSound.{AreKeys}
 use Rattle.index_media.specs.KeyedKeys.{AreKeysBounded}
 use Rattle.index_media.specs.KeyedRow.{KeyedRow, no_more, leaf_in, node_in, bare}
-use Rattle.table_nodes.specs.NodeView.{NodeView, node_before, row_of, views, children_in, tree_at, IsRootIn}
+use Rattle.table_nodes.specs.NodeView.{NodeView, node_before, row_of, node_views, children_in, tree_at, IsRootIn}
 use Rattle.table_nodes.specs.Sound.{IsSoundView}
-use Rattle.table_nodes.specs.Links.{row_before, IsLinkIn, AreLinksIn, IsAdded}
+use Rattle.table_nodes.specs.Links.{row_before, IsLinkIn, AreLinksIn, AreNodesAdded}
 use Rattle.node_table.specs.Staging.{insertion_passes, IsGrownRow, IsSoundRoot}
 use Rattle.table_nodes.specs.declared.link.Link.{Link}
 use Rattle.table_nodes.specs.declared.link.Link.TheVariants.{ToLeaf, ToNode}
@@ -44,42 +44,42 @@ among_leaf seen f new x rest links made e s =
     ∙ ap (λ r. row_before seen made (leaf_in new r)) (before_none seen links ∙ ap (row_of seen) e) ∙ ap (row_before seen made) (sym (leaf_before f seen new x rest s))
     ∙ ap (λ v. row_before seen made (inserted_by_keys f new (row_of seen v))) (sym e)
 
-there_old : (f : ℕ) (old : List TableNode) (links : List Link) → fits f (bare (row_of (views old) links)) ≡ true → AreLinksIn (length old) links
-there_old f old links h = subst (λ n. AreLinksIn n links) (views_length old) (links_there f (views old) links h)
+there_old : (f : ℕ) (old : List TableNode) (links : List Link) → fits f (bare (row_of (node_views old) links)) ≡ true → AreLinksIn (length old) links
+there_old f old links h = subst (λ n. AreLinksIn n links) (views_length old) (links_there f (node_views old) links h)
 
 -- the links behind the first one are there too
-pub rest_there : (f : ℕ) (old : List TableNode) (link : Link) (rest links : List Link) → links ≡ link ∷ rest → fits f (bare (row_of (views old) links)) ≡ true → AreLinksIn (length old) rest
+pub rest_there : (f : ℕ) (old : List TableNode) (link : Link) (rest links : List Link) → links ≡ link ∷ rest → fits f (bare (row_of (node_views old) links)) ≡ true → AreLinksIn (length old) rest
 rest_there f old link rest links e h =
-    let P : List Link → Type 0 = λ v. fits f (bare (row_of (views old) v)) ≡ true in
+    let P : List Link → Type 0 = λ v. fits f (bare (row_of (node_views old) v)) ≡ true in
     (there_old f old (link ∷ rest) (subst P e h)).1
 
-pub all_there : (f : ℕ) (old : List TableNode) (links : List Link) → fits f (bare (row_of (views old) links)) ≡ true → AreLinksIn (length old) links
+pub all_there : (f : ℕ) (old : List TableNode) (links : List Link) → fits f (bare (row_of (node_views old) links)) ≡ true → AreLinksIn (length old) links
 all_there f old links h = there_old f old links h
 
-pub among_node : (f : ℕ) (old now : List TableNode) (new : Leaf) (key : Key) (number : ℕ) (rest links made more : List Link) → links ≡ ToNode key number ∷ rest → IsAdded old now
-    → fits f (bare (row_of (views old) links)) ≡ true → insertion_passes new (ToNode key number) rest ≡ false
-    → ((r : KeyedRow) → row_before (views now) more r ≡ row_before (views old) made (keyed_parted f (lowered new key) (inserted_by_keys f new (children_in (slice_get (views old) number))) r))
-    → row_before (views now) (more ++ rest) no_more ≡ row_before (views old) made (inserted_by_keys f new (row_of (views old) links))
+pub among_node : (f : ℕ) (old now : List TableNode) (new : Leaf) (key : Key) (number : ℕ) (rest links made more : List Link) → links ≡ ToNode key number ∷ rest → AreNodesAdded old now
+    → fits f (bare (row_of (node_views old) links)) ≡ true → insertion_passes new (ToNode key number) rest ≡ false
+    → ((r : KeyedRow) → row_before (node_views now) more r ≡ row_before (node_views old) made (keyed_parted f (lowered new key) (inserted_by_keys f new (children_in (slice_get (node_views old) number))) r))
+    → row_before (node_views now) (more ++ rest) no_more ≡ row_before (node_views old) made (inserted_by_keys f new (row_of (node_views old) links))
 among_node f old now new key number rest links made more e a h s m =
     let kept = links_kept old now rest no_more a (rest_there f old (ToNode key number) rest links e h) in
-    before_append (views now) more rest no_more ∙ m (row_before (views now) rest no_more)
-    ∙ ap (λ r. row_before (views old) made (keyed_parted f (lowered new key) (inserted_by_keys f new (children_in (slice_get (views old) number))) r)) (kept ∙ before_none (views old) rest)
-    ∙ ap (row_before (views old) made) (sym (node_inside f (views old) new key number rest s))
-    ∙ ap (λ v. row_before (views old) made (inserted_by_keys f new (row_of (views old) v))) (sym e)
+    before_append (node_views now) more rest no_more ∙ m (row_before (node_views now) rest no_more)
+    ∙ ap (λ r. row_before (node_views old) made (keyed_parted f (lowered new key) (inserted_by_keys f new (children_in (slice_get (node_views old) number))) r)) (kept ∙ before_none (node_views old) rest)
+    ∙ ap (row_before (node_views old) made) (sym (node_inside f (node_views old) new key number rest s))
+    ∙ ap (λ v. row_before (node_views old) made (inserted_by_keys f new (row_of (node_views old) v))) (sym e)
 
 -- the row that was made among the links of a node
-pub made_row : (old now : List TableNode) (made links : List Link) (row : KeyedRow) → made ≡ [] → row_before (views now) links no_more ≡ row_before (views old) made row → row_of (views now) links ≡ row
-made_row old now made links row e h = sym (before_none (views now) links) ∙ h ∙ ap (λ v. row_before (views old) v row) e
+pub made_row : (old now : List TableNode) (made links : List Link) (row : KeyedRow) → made ≡ [] → row_before (node_views now) links no_more ≡ row_before (node_views old) made row → row_of (node_views now) links ≡ row
+made_row old now made links row e h = sym (before_none (node_views now) links) ∙ h ∙ ap (λ v. row_before (node_views old) v row) e
 
-pub below_made : (f f' : ℕ) (old now : List TableNode) (new : Leaf) (key low : Key) (made links : List Link) (row children rest : KeyedRow) → f' ≡ f → IsAdded old now → AreLinksIn (length old) made
-    → low ≡ lowered new key → row_of (views now) links ≡ inserted_by_keys f new row → children ≡ row
-    → row_before (views now) made (keyed_parted f' low (row_of (views now) links) rest) ≡ row_before (views old) made (keyed_parted f (lowered new key) (inserted_by_keys f new children) rest)
+pub below_made : (f f' : ℕ) (old now : List TableNode) (new : Leaf) (key low : Key) (made links : List Link) (row children rest : KeyedRow) → f' ≡ f → AreNodesAdded old now → AreLinksIn (length old) made
+    → low ≡ lowered new key → row_of (node_views now) links ≡ inserted_by_keys f new row → children ≡ row
+    → row_before (node_views now) made (keyed_parted f' low (row_of (node_views now) links) rest) ≡ row_before (node_views old) made (keyed_parted f (lowered new key) (inserted_by_keys f new children) rest)
 below_made f f' old now new key low made links row children rest e a h k r c =
-    links_kept old now made (keyed_parted f' low (row_of (views now) links) rest) a h
-    ∙ ap (λ n. row_before (views old) made (keyed_parted n low (row_of (views now) links) rest)) e
-    ∙ ap (λ n. row_before (views old) made (keyed_parted f n (row_of (views now) links) rest)) k
-    ∙ ap (λ v. row_before (views old) made (keyed_parted f (lowered new key) v rest)) r
-    ∙ ap (λ v. row_before (views old) made (keyed_parted f (lowered new key) (inserted_by_keys f new v) rest)) (sym c)
+    links_kept old now made (keyed_parted f' low (row_of (node_views now) links) rest) a h
+    ∙ ap (λ n. row_before (node_views old) made (keyed_parted n low (row_of (node_views now) links) rest)) e
+    ∙ ap (λ n. row_before (node_views old) made (keyed_parted f n (row_of (node_views now) links) rest)) k
+    ∙ ap (λ v. row_before (node_views old) made (keyed_parted f (lowered new key) v rest)) r
+    ∙ ap (λ v. row_before (node_views old) made (keyed_parted f (lowered new key) (inserted_by_keys f new v) rest)) (sym c)
 
 pub below_grown : (f f' level : ℕ) (new : Leaf) (row made : KeyedRow) → 3 ≤ f → f' ≡ f → IsKey new.key → IsSoundView f (record { level = level; place = None; children = row })
     → made ≡ inserted_by_keys f new row → IsGrownRow f' level made
@@ -89,20 +89,20 @@ below_grown f f' level new row made three e own s r =
     subst (λ n. IsGrownRow n level made) (sym e) (subst P (sym r) g)
 
 -- each root goes on showing its index
-pub tree_kept : (old now : List TableNode) (root : Option Root) → IsAdded old now → IsRootIn old root → tree_at now root ≡ tree_at old root
+pub tree_kept : (old now : List TableNode) (root : Option Root) → AreNodesAdded old now → IsRootIn old root → tree_at now root ≡ tree_at old root
 tree_kept old now None a h = refl
 tree_kept old now (Some root) a h =
     let p = views_added old now a in
     let v : NodeView = record { level = 0; place = None; children = no_more } in
-    let there = slice_get-get_or (views old) root.number v (subst (λ n. root.number < n) (sym (views_length old)) h) in
-    ap (λ o. node_before root.key o no_more) (ap (λ w. slice_get w root.number) p.1 ∙ get_left (views old) p.0 root.number _ there ∙ sym there)
+    let there = slice_get-get_or (node_views old) root.number v (subst (λ n. root.number < n) (sym (views_length old)) h) in
+    ap (λ o. node_before root.key o no_more) (ap (λ w. slice_get w root.number) p.1 ∙ get_left (node_views old) p.0 root.number _ there ∙ sym there)
 
 -- and is one of the longer table, as sound as it was
-pub root_kept : (old now : List TableNode) (root : Option Root) → IsAdded old now → IsRootIn old root → IsRootIn now root
+pub root_kept : (old now : List TableNode) (root : Option Root) → AreNodesAdded old now → IsRootIn old root → IsRootIn now root
 root_kept old now None a h = tt
 root_kept old now (Some root) a h = let long = added_longer old now a in omega (arith, h, long)
 
-pub sound_kept : (old now : List TableNode) (root : Option Root) → IsAdded old now → IsSoundRoot old root → IsSoundRoot now root
+pub sound_kept : (old now : List TableNode) (root : Option Root) → AreNodesAdded old now → IsSoundRoot old root → IsSoundRoot now root
 sound_kept old now root a r =
     let same = tree_kept old now root a r.there in
     let B : KeyedRow → Type 0 = λ v. AreKeysBounded 0 None v in
@@ -111,27 +111,27 @@ sound_kept old now root a r =
 
 -- the row that an insertion below a root makes
 pub top_made : (f : ℕ) (old now : List TableNode) (new : Leaf) (root : Root) (none made : List Link) → none ≡ []
-    → row_before (views now) made no_more ≡ row_before (views old) none (keyed_parted f (lowered new root.key) (inserted_by_keys f new (children_in (slice_get (views old) root.number))) no_more)
-    → row_of (views now) made ≡ inserted_by_keys f new (tree_at old (Some root))
+    → row_before (node_views now) made no_more ≡ row_before (node_views old) none (keyed_parted f (lowered new root.key) (inserted_by_keys f new (children_in (slice_get (node_views old) root.number))) no_more)
+    → row_of (node_views now) made ≡ inserted_by_keys f new (tree_at old (Some root))
 top_made f old now new root none made e h =
-    made_row old now none made _ e h ∙ sym (node_inside f (views old) new root.key root.number [] refl)
+    made_row old now none made _ e h ∙ sym (node_inside f (node_views old) new root.key root.number [] refl)
 
 -- a row whose nodes have children is the same over more nodes
-pub row_kept : (f : ℕ) (old now : List TableNode) (links : List Link) → IsAdded old now → fits f (bare (row_of (views old) links)) ≡ true → row_of (views now) links ≡ row_of (views old) links
-row_kept f old now links a h = sym (before_none (views now) links) ∙ links_kept old now links no_more a (all_there f old links h) ∙ before_none (views old) links
+pub row_kept : (f : ℕ) (old now : List TableNode) (links : List Link) → AreNodesAdded old now → fits f (bare (row_of (node_views old) links)) ≡ true → row_of (node_views now) links ≡ row_of (node_views old) links
+row_kept f old now links a h = sym (before_none (node_views now) links) ∙ links_kept old now links no_more a (all_there f old links h) ∙ before_none (node_views old) links
 
 -- so is the second half of a node once the first half stands
-pub back_row_kept : (f level : ℕ) (old now : List TableNode) (back : List Link) (half : KeyedRow) → IsAdded old now → row_of (views old) back ≡ half
-    → IsSoundView f (record { level = level; place = None; children = half }) → row_of (views now) back ≡ half
+pub back_row_kept : (f level : ℕ) (old now : List TableNode) (back : List Link) (half : KeyedRow) → AreNodesAdded old now → row_of (node_views old) back ≡ half
+    → IsSoundView f (record { level = level; place = None; children = half }) → row_of (node_views now) back ≡ half
 back_row_kept f level old now back half a e s =
     let P : KeyedRow → Type 0 = λ r. fits f (bare r) ≡ true in
     row_kept f old now back a (subst P (sym e) (children_fit f (record { level = level; place = None; children = half }) s)) ∙ e
 
-pub back_sound : (f f' level : ℕ) (old now : List TableNode) (back : List Link) (half : KeyedRow) → f' ≡ f → IsAdded old now → row_of (views old) back ≡ half
-    → IsSoundView f (record { level = level; place = None; children = half }) → IsSoundView f' (record { level = level; place = None; children = row_of (views now) back })
+pub back_sound : (f f' level : ℕ) (old now : List TableNode) (back : List Link) (half : KeyedRow) → f' ≡ f → AreNodesAdded old now → row_of (node_views old) back ≡ half
+    → IsSoundView f (record { level = level; place = None; children = half }) → IsSoundView f' (record { level = level; place = None; children = row_of (node_views now) back })
 back_sound f f' level old now back half g a e s =
     let P : KeyedRow → Type 0 = λ r. IsSoundView f (record { level = level; place = None; children = r }) in
-    let Q : ℕ → Type 0 = λ n. IsSoundView n (record { level = level; place = None; children = row_of (views now) back }) in
+    let Q : ℕ → Type 0 = λ n. IsSoundView n (record { level = level; place = None; children = row_of (node_views now) back }) in
     subst Q (sym g) (subst P (sym (back_row_kept f level old now back half a e s)) s)
 
 -- two halves are what stands for a node
@@ -151,7 +151,7 @@ rest_fits f seen link rest links e h =
     let P : List Link → Type 0 = λ v. fits f (bare (row_of seen v)) ≡ true in
     link_there f seen link (row_of seen rest) (subst P e h)
 
-pub first_there : (f : ℕ) (old : List TableNode) (link : Link) (rest links : List Link) → links ≡ link ∷ rest → fits f (bare (row_of (views old) links)) ≡ true → IsLinkIn (length old) link
+pub first_there : (f : ℕ) (old : List TableNode) (link : Link) (rest links : List Link) → links ≡ link ∷ rest → fits f (bare (row_of (node_views old) links)) ≡ true → IsLinkIn (length old) link
 first_there f old link rest links e h =
-    let P : List Link → Type 0 = λ v. fits f (bare (row_of (views old) v)) ≡ true in
+    let P : List Link → Type 0 = λ v. fits f (bare (row_of (node_views old) v)) ≡ true in
     (there_old f old (link ∷ rest) (subst P e h)).0

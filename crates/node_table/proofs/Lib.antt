@@ -11,6 +11,7 @@ pub mod ExchangeSound
 pub mod Removed
 pub mod Changed
 pub mod Counted
+pub mod Bounded
 pub mod Ending
 pub mod LastBlocks
 pub mod Pruned

@@ -16,9 +16,9 @@ use Rattle.index_media.specs.KeyedRange.{place_without_range, pruned_by_keys}
 use Rattle.index_media.specs.KeyedRemoval.{keyed_tidied}
 use Rattle.index_media.specs.KeyedRow.{KeyedRow, no_more, node_in, bare}
 use Rattle.index_media.specs.PlacedRow.{Stretch}
-use Rattle.table_nodes.specs.NodeView.{NodeView, link_key, links_begin, node_before, linked_before, row_of, views, children_in}
-use Rattle.node_table.specs.Pruning.{place_in, pruned_node, pruned_link}
-use Rattle.table_nodes.specs.Links.{row_before, AreLinksIn, IsAdded}
+use Rattle.table_nodes.specs.NodeView.{NodeView, link_key, links_begin, node_before, linked_before, row_of, node_views, children_in}
+use Rattle.node_table.specs.Pruning.{stretch_in, pruned_node, pruned_link}
+use Rattle.table_nodes.specs.Links.{row_before, AreLinksIn, AreNodesAdded}
 use Rattle.node_table.specs.Walk.{inside}
 use Rattle.table_nodes.specs.declared.link.Link.{Link}
 use Rattle.table_nodes.specs.declared.link.Link.TheVariants.{ToLeaf, ToNode}
@@ -163,26 +163,26 @@ among_passed same f from to seen link rest links made is fit h =
 abbrev pub IsLeft : List NodeView → List NodeView → ℕ → ℕ → Link → List Link → List Link → Type 0
 IsLeft old now from to link made more = (r : KeyedRow) → row_before now more r ≡ row_before old made (pruned_link from to old link r)
 
-pub among_last : AreSame → (f from to : ℕ) (old now : List TableNode) (link : Link) (rest links made more : List Link) → links ≡ link ∷ rest → IsAdded old now
-    → fits f (bare (row_of (views old) links)) ≡ true → fits f (bare (row_of (views old) rest)) ≡ true → within_range from to (contents (bare (row_of (views old) rest))) ≡ []
-    → IsLeft (views old) (views now) from to link made more
-    → row_before (views now) (more ++ rest) no_more ≡ row_before (views old) made (pruned_by_keys from to (row_of (views old) links))
+pub among_last : AreSame → (f from to : ℕ) (old now : List TableNode) (link : Link) (rest links made more : List Link) → links ≡ link ∷ rest → AreNodesAdded old now
+    → fits f (bare (row_of (node_views old) links)) ≡ true → fits f (bare (row_of (node_views old) rest)) ≡ true → within_range from to (contents (bare (row_of (node_views old) rest))) ≡ []
+    → IsLeft (node_views old) (node_views now) from to link made more
+    → row_before (node_views now) (more ++ rest) no_more ≡ row_before (node_views old) made (pruned_by_keys from to (row_of (node_views old) links))
 among_last same f from to old now link rest links made more is a h g none m =
     let kept = links_kept old now rest no_more a (rest_there f old link rest links is h) in
-    let stays = sym (same f from to (row_of (views old) rest) g none) in
-    before_append (views now) more rest no_more ∙ m (row_before (views now) rest no_more)
-    ∙ ap (λ r. row_before (views old) made (pruned_link from to (views old) link r)) (kept ∙ before_none (views old) rest ∙ stays)
-    ∙ ap (row_before (views old) made) (sym (link_pruned from to (views old) link (row_of (views old) rest)))
-    ∙ ap (λ v. row_before (views old) made (pruned_by_keys from to (row_of (views old) v))) (sym is)
+    let stays = sym (same f from to (row_of (node_views old) rest) g none) in
+    before_append (node_views now) more rest no_more ∙ m (row_before (node_views now) rest no_more)
+    ∙ ap (λ r. row_before (node_views old) made (pruned_link from to (node_views old) link r)) (kept ∙ before_none (node_views old) rest ∙ stays)
+    ∙ ap (row_before (node_views old) made) (sym (link_pruned from to (node_views old) link (row_of (node_views old) rest)))
+    ∙ ap (λ v. row_before (node_views old) made (pruned_by_keys from to (row_of (node_views old) v))) (sym is)
 
-pub among_more : (f from to : ℕ) (old now : List TableNode) (link : Link) (rest links made more : List Link) → links ≡ link ∷ rest → IsAdded old now
-    → fits f (bare (row_of (views old) rest)) ≡ true → IsLeft (views old) (views now) from to link made more
-    → row_before (views now) more (pruned_by_keys from to (row_of (views now) rest)) ≡ row_before (views old) made (pruned_by_keys from to (row_of (views old) links))
+pub among_more : (f from to : ℕ) (old now : List TableNode) (link : Link) (rest links made more : List Link) → links ≡ link ∷ rest → AreNodesAdded old now
+    → fits f (bare (row_of (node_views old) rest)) ≡ true → IsLeft (node_views old) (node_views now) from to link made more
+    → row_before (node_views now) more (pruned_by_keys from to (row_of (node_views now) rest)) ≡ row_before (node_views old) made (pruned_by_keys from to (row_of (node_views old) links))
 among_more f from to old now link rest links made more is a g m =
-    m (pruned_by_keys from to (row_of (views now) rest))
-    ∙ ap (λ r. row_before (views old) made (pruned_link from to (views old) link (pruned_by_keys from to r))) (row_kept f old now rest a g)
-    ∙ ap (row_before (views old) made) (sym (link_pruned from to (views old) link (row_of (views old) rest)))
-    ∙ ap (λ v. row_before (views old) made (pruned_by_keys from to (row_of (views old) v))) (sym is)
+    m (pruned_by_keys from to (row_of (node_views now) rest))
+    ∙ ap (λ r. row_before (node_views old) made (pruned_link from to (node_views old) link (pruned_by_keys from to r))) (row_kept f old now rest a g)
+    ∙ ap (row_before (node_views old) made) (sym (link_pruned from to (node_views old) link (row_of (node_views old) rest)))
+    ∙ ap (λ v. row_before (node_views old) made (pruned_by_keys from to (row_of (node_views old) v))) (sym is)
 
 -- a leaf that goes, and one that stays
 pub leaf_gone : (seen : List NodeView) (from to : ℕ) (x : Leaf) (link : Link) (made : List Link) (rest : KeyedRow) → link ≡ ToLeaf x → in_range from to x ≡ true
@@ -208,39 +208,39 @@ leaf_uncounted seen from to x link is h =
     subst P (sym is) (rw h refl)
 
 -- what is pushed for a node below which none goes, for one that this empties, and for one that has children left
-pub below_same : AreSame → (f from to : ℕ) (old now : List TableNode) (key : Key) (number : ℕ) (row : KeyedRow) (made : List Link) (rest : KeyedRow) → number < length old → IsAdded old now
-    → AreLinksIn (length old) made → children_in (slice_get (views old) number) ≡ row → 0 < count (bare row) → fits f (bare row) ≡ true → within_range from to (contents (bare row)) ≡ []
-    → row_before (views now) (made ++ ToNode key number ∷ []) rest ≡ row_before (views old) made (pruned_node from to key (slice_get (views old) number) rest)
+pub below_same : AreSame → (f from to : ℕ) (old now : List TableNode) (key : Key) (number : ℕ) (row : KeyedRow) (made : List Link) (rest : KeyedRow) → number < length old → AreNodesAdded old now
+    → AreLinksIn (length old) made → children_in (slice_get (node_views old) number) ≡ row → 0 < count (bare row) → fits f (bare row) ≡ true → within_range from to (contents (bare row)) ≡ []
+    → row_before (node_views now) (made ++ ToNode key number ∷ []) rest ≡ row_before (node_views old) made (pruned_node from to key (slice_get (node_views old) number) rest)
 below_same same f from to old now key number row made rest own a h e some fit none =
     let P : KeyedRow → Type 0 = λ r. (0 < count (bare r)) × (fits f (bare r) ≡ true) × (within_range from to (contents (bare r)) ≡ []) in
     let all = subst P (sym e) (some, fit, none) in
     links_kept old now (made ++ ToNode key number ∷ []) rest a (links_in_append (length old) made (ToNode key number ∷ []) h (own, tt))
-    ∙ before_append (views old) made (ToNode key number ∷ []) rest
-    ∙ ap (row_before (views old) made) (sym (node_same same f from to key (slice_get (views old) number) rest all.0 all.1 all.2))
+    ∙ before_append (node_views old) made (ToNode key number ∷ []) rest
+    ∙ ap (row_before (node_views old) made) (sym (node_same same f from to key (slice_get (node_views old) number) rest all.0 all.1 all.2))
 
-pub below_emptied : (from to : ℕ) (old now : List TableNode) (key : Key) (o : Option NodeView) (row : KeyedRow) (made links : List Link) (rest : KeyedRow) → IsAdded old now
-    → AreLinksIn (length old) made → children_in o ≡ row → row_of (views now) links ≡ pruned_by_keys from to row → length links ≡ 0
-    → row_before (views now) made rest ≡ row_before (views old) made (pruned_node from to key o rest)
+pub below_emptied : (from to : ℕ) (old now : List TableNode) (key : Key) (o : Option NodeView) (row : KeyedRow) (made links : List Link) (rest : KeyedRow) → AreNodesAdded old now
+    → AreLinksIn (length old) made → children_in o ≡ row → row_of (node_views now) links ≡ pruned_by_keys from to row → length links ≡ 0
+    → row_before (node_views now) made rest ≡ row_before (node_views old) made (pruned_node from to key o rest)
 below_emptied from to old now key o row made links rest a h e r z =
-    let number = links_counted (views now) links in
+    let number = links_counted (node_views now) links in
     let left = ap (λ (v : KeyedRow). count (bare v)) (r ∙ ap (pruned_by_keys from to) (sym e)) in
-    let none = tidied_none key (place_without_range from to (children_in o) (place_in o)) (pruned_by_keys from to (children_in o)) rest (omega (arith, number, left, z)) in
-    links_kept old now made rest a h ∙ ap (row_before (views old) made) (sym none)
+    let none = tidied_none key (place_without_range from to (children_in o) (stretch_in o)) (pruned_by_keys from to (children_in o)) rest (omega (arith, number, left, z)) in
+    links_kept old now made rest a h ∙ ap (row_before (node_views old) made) (sym none)
 
-pub below_left : (from to : ℕ) (old now : List TableNode) (key : Key) (o : Option NodeView) (row : KeyedRow) (made links : List Link) (rest : KeyedRow) → IsAdded old now
-    → AreLinksIn (length old) made → children_in o ≡ row → row_of (views now) links ≡ pruned_by_keys from to row → 0 < length (within_range from to (contents (bare row))) → 0 < length links
-    → row_before (views now) made (node_in key None (row_of (views now) links) rest) ≡ row_before (views old) made (pruned_node from to key o rest)
+pub below_left : (from to : ℕ) (old now : List TableNode) (key : Key) (o : Option NodeView) (row : KeyedRow) (made links : List Link) (rest : KeyedRow) → AreNodesAdded old now
+    → AreLinksIn (length old) made → children_in o ≡ row → row_of (node_views now) links ≡ pruned_by_keys from to row → 0 < length (within_range from to (contents (bare row))) → 0 < length links
+    → row_before (node_views now) made (node_in key None (row_of (node_views now) links) rest) ≡ row_before (node_views old) made (pruned_node from to key o rest)
 below_left from to old now key o row made links rest a h e r gone some =
-    let number = links_counted (views now) links in
+    let number = links_counted (node_views now) links in
     let is = r ∙ ap (pruned_by_keys from to) (sym e) in
     let left = ap (λ (v : KeyedRow). count (bare v)) is in
     let P : KeyedRow → Type 0 = λ v. 0 < length (within_range from to (contents (bare v))) in
-    let dirty = dirty_then from to (children_in o) (place_in o) (subst P (sym e) gone) in
+    let dirty = dirty_then from to (children_in o) (stretch_in o) (subst P (sym e) gone) in
     let whole = ap (λ (p : Option Stretch). keyed_tidied (node_in key p (pruned_by_keys from to (children_in o)) rest)) dirty
     ∙ tidied_some key None (pruned_by_keys from to (children_in o)) rest (omega (arith, number, left, some)) in
-    links_kept old now made (node_in key None (row_of (views now) links) rest) a h
-    ∙ ap (λ v. row_before (views old) made (node_in key None v rest)) is
-    ∙ ap (row_before (views old) made) (sym whole)
+    links_kept old now made (node_in key None (row_of (node_views now) links) rest) a h
+    ∙ ap (λ v. row_before (node_views old) made (node_in key None v rest)) is
+    ∙ ap (row_before (node_views old) made) (sym whole)
 
 -- behind the links of lower ranks that a walk passes over, if there are any
 pub range_lower : (seen : List NodeView) (from to : ℕ) (links : List Link) (n : ℕ) → (0 < n → 0 < from) → Passed seen (from - 1) links n

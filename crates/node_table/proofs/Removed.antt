@@ -10,8 +10,8 @@ use Rattle.index_media.specs.InsertionSound.{AreKeys}
 use Rattle.index_media.specs.KeyedKeys.{AreKeysBounded}
 use Rattle.index_media.specs.KeyedRemoval.{removed_by_keys, keyed_collapsed, without_leaf_by_keys, replaced_by_keys}
 use Rattle.index_media.specs.KeyedRow.{KeyedRow, no_more, bare}
-use Rattle.node_table.specs.Exchange.{exchanged, exchanged_node, tree_without}
-use Rattle.table_nodes.specs.NodeView.{NodeView, node_before, row_of, views, children_in, tree_at, IsRootIn}
+use Rattle.node_table.specs.Exchange.{exchanged_row, exchanged_node, tree_without}
+use Rattle.table_nodes.specs.NodeView.{NodeView, node_before, row_of, node_views, children_in, tree_at, IsRootIn}
 use Rattle.table_nodes.specs.Sound.{AreSoundViews}
 use Rattle.table_nodes.specs.Links.{row_before, AreLinksIn}
 use Rattle.node_table.specs.Staging.{only_root, IsSoundRoot}
@@ -33,11 +33,11 @@ node_sinks : (key : Key) (o : Option NodeView) → lone (bare (children_in o)) �
 node_sinks key None h = absurd cc
 node_sinks key (Some v) h = rw h refl
 
-pub root_stays_up : (nodes : List TableNode) (root : Root) (row : KeyedRow) → children_in (slice_get (views nodes) root.number) ≡ row → lone (bare row) ≡ false
+pub root_stays_up : (nodes : List TableNode) (root : Root) (row : KeyedRow) → children_in (slice_get (node_views nodes) root.number) ≡ row → lone (bare row) ≡ false
     → tree_at nodes (Some root) ≡ keyed_collapsed (tree_at nodes (Some root))
 root_stays_up nodes root row e h =
     let P : KeyedRow → Type 0 = λ r. lone (bare r) ≡ false in
-    node_stays_up root.key (slice_get (views nodes) root.number) (subst P (sym e) h)
+    node_stays_up root.key (slice_get (node_views nodes) root.number) (subst P (sym e) h)
 
 -- the root to which links lead is a node of the table
 pub only_linked : (n : ℕ) (links : List Link) (root : Root) → AreLinksIn n links → only_root links ≡ Some root → root.number < n
@@ -50,13 +50,13 @@ node_alone key None = refl
 node_alone key (Some v) = refl
 
 pub record SunkTo (nodes : List TableNode) (root child : Root) : Type 0 where
-  pub small : row_size (children_in (slice_get (views nodes) child.number)) < row_size (children_in (slice_get (views nodes) root.number))
+  pub small : row_size (children_in (slice_get (node_views nodes) child.number)) < row_size (children_in (slice_get (node_views nodes) root.number))
   pub same : keyed_collapsed (tree_at nodes (Some child)) ≡ keyed_collapsed (tree_at nodes (Some root))
 
-pub sunk_to : (nodes : List TableNode) (root child : Root) (links : List Link) → children_in (slice_get (views nodes) root.number) ≡ row_of (views nodes) links → only_root links ≡ Some child
+pub sunk_to : (nodes : List TableNode) (root child : Root) (links : List Link) → children_in (slice_get (node_views nodes) root.number) ≡ row_of (node_views nodes) links → only_root links ≡ Some child
     → SunkTo nodes root child
 sunk_to nodes root child links e o =
-    let seen = views nodes in
+    let seen = node_views nodes in
     let row = only_row nodes links child o in
     let is = e ∙ row in
     let size = ap row_size is ∙ node_size child.key (slice_get seen child.number) no_more in
@@ -68,38 +68,38 @@ option_fits : (f : ℕ) (seen : List NodeView) (i : ℕ) (o : Option NodeView) �
 option_fits f seen i None s e = refl
 option_fits f seen i (Some v) s e = children_fit f v (sound_at f seen i v s e)
 
-pub links_fit : (f : ℕ) (nodes : List TableNode) (i : ℕ) (links : List Link) → AreSoundViews f (views nodes) → children_in (slice_get (views nodes) i) ≡ row_of (views nodes) links
-    → fits f (bare (row_of (views nodes) links)) ≡ true
+pub links_fit : (f : ℕ) (nodes : List TableNode) (i : ℕ) (links : List Link) → AreSoundViews f (node_views nodes) → children_in (slice_get (node_views nodes) i) ≡ row_of (node_views nodes) links
+    → fits f (bare (row_of (node_views nodes) links)) ≡ true
 links_fit f nodes i links s e =
     let P : KeyedRow → Type 0 = λ r. fits f (bare r) ≡ true in
-    subst P e (option_fits f (views nodes) i (slice_get (views nodes) i) s refl)
+    subst P e (option_fits f (node_views nodes) i (slice_get (node_views nodes) i) s refl)
 
 -- whether a leaf is below a root is told below its node
-pub top_holds : (nodes : List TableNode) (root : Root) (z : Leaf) → holds z (contents (bare (tree_at nodes (Some root)))) ≡ holds z (contents (bare (children_in (slice_get (views nodes) root.number))))
-top_holds nodes root z = ap (holds z) (node_apart root.key (slice_get (views nodes) root.number) no_more ∙ append-nil (contents (bare (children_in (slice_get (views nodes) root.number)))))
+pub top_holds : (nodes : List TableNode) (root : Root) (z : Leaf) → holds z (contents (bare (tree_at nodes (Some root)))) ≡ holds z (contents (bare (children_in (slice_get (node_views nodes) root.number))))
+top_holds nodes root z = ap (holds z) (node_apart root.key (slice_get (node_views nodes) root.number) no_more ∙ append-nil (contents (bare (children_in (slice_get (node_views nodes) root.number)))))
 
 -- where it isn't, the index stays
-pub without_none : (nodes : List TableNode) (root : Root) (z : Leaf) → holds z (contents (bare (children_in (slice_get (views nodes) root.number)))) ≡ false
+pub without_none : (nodes : List TableNode) (root : Root) (z : Leaf) → holds z (contents (bare (children_in (slice_get (node_views nodes) root.number)))) ≡ false
     → tree_at nodes (Some root) ≡ tree_without z (tree_at nodes (Some root))
 without_none nodes root z h =
     let none : holds z (contents (bare (tree_at nodes (Some root)))) ≡ false = top_holds nodes root z ∙ h in
     rw none refl
 
-pub replaced_none : (nodes : List TableNode) (root : Root) (z new : Leaf) → holds z (contents (bare (children_in (slice_get (views nodes) root.number)))) ≡ false
+pub replaced_none : (nodes : List TableNode) (root : Root) (z new : Leaf) → holds z (contents (bare (children_in (slice_get (node_views nodes) root.number)))) ≡ false
     → tree_at nodes (Some root) ≡ replaced_by_keys z new (tree_at nodes (Some root))
 replaced_none nodes root z new h = sym (exchanged_same z (Some new) (tree_at nodes (Some root)) (top_holds nodes root z ∙ h))
 
 -- where it is, the links that were pushed lead to what is left of the root
-pub left_row : (old now : List TableNode) (root : Root) (z : Leaf) (come : Option Leaf) (none made : List Link) → none ≡ [] → holds z (contents (bare (children_in (slice_get (views old) root.number)))) ≡ true
-    → row_before (views now) made no_more ≡ row_before (views old) none (exchanged_node z come root.key (slice_get (views old) root.number) no_more)
-    → row_of (views now) made ≡ exchanged z come (tree_at old (Some root))
-left_row old now root z come none made e h m = made_row old now none made _ e m ∙ node_there z come root.key (slice_get (views old) root.number) no_more h
+pub left_row : (old now : List TableNode) (root : Root) (z : Leaf) (come : Option Leaf) (none made : List Link) → none ≡ [] → holds z (contents (bare (children_in (slice_get (node_views old) root.number)))) ≡ true
+    → row_before (node_views now) made no_more ≡ row_before (node_views old) none (exchanged_node z come root.key (slice_get (node_views old) root.number) no_more)
+    → row_of (node_views now) made ≡ exchanged_row z come (tree_at old (Some root))
+left_row old now root z come none made e h m = made_row old now none made _ e m ∙ node_there z come root.key (slice_get (node_views old) root.number) no_more h
 
 without_held : (z : Leaf) (row : KeyedRow) → holds z (contents (bare row)) ≡ true → tree_without z row ≡ keyed_collapsed (removed_by_keys z row)
 unfolding without_leaf_by_keys
 without_held z row h = rw h refl
 
-pub without_some : (nodes : List TableNode) (root : Root) (z : Leaf) → holds z (contents (bare (children_in (slice_get (views nodes) root.number)))) ≡ true
+pub without_some : (nodes : List TableNode) (root : Root) (z : Leaf) → holds z (contents (bare (children_in (slice_get (node_views nodes) root.number)))) ≡ true
     → tree_without z (tree_at nodes (Some root)) ≡ keyed_collapsed (removed_by_keys z (tree_at nodes (Some root)))
 without_some nodes root z h = without_held z (tree_at nodes (Some root)) (top_holds nodes root z ∙ h)
 
@@ -112,15 +112,15 @@ removed_top z key (Some v) h l = elim (cases_Bool (count (bare (removed_by_keys 
   | inr e ↦ let one = rw (h, e) at l in absurd cc
 ]
 
-pub none_left : (old now : List TableNode) (root : Root) (z : Leaf) (made : List Link) → holds z (contents (bare (children_in (slice_get (views old) root.number)))) ≡ true
-    → row_of (views now) made ≡ removed_by_keys z (tree_at old (Some root)) → only_root made ≡ None → no_more ≡ tree_without z (tree_at old (Some root))
+pub none_left : (old now : List TableNode) (root : Root) (z : Leaf) (made : List Link) → holds z (contents (bare (children_in (slice_get (node_views old) root.number)))) ≡ true
+    → row_of (node_views now) made ≡ removed_by_keys z (tree_at old (Some root)) → only_root made ≡ None → no_more ≡ tree_without z (tree_at old (Some root))
 none_left old now root z made h r o =
     let P : KeyedRow → Type 0 = λ v. lone (bare v) ≡ false in
-    let none = removed_top z root.key (slice_get (views old) root.number) h (subst P r (not_lone (views now) made o)) in
+    let none = removed_top z root.key (slice_get (node_views old) root.number) h (subst P r (not_lone (node_views now) made o)) in
     sym (without_some old root z h ∙ ap keyed_collapsed none)
 
-pub one_left : (old now : List TableNode) (root left sunk : Root) (z : Leaf) (made : List Link) → holds z (contents (bare (children_in (slice_get (views old) root.number)))) ≡ true
-    → row_of (views now) made ≡ removed_by_keys z (tree_at old (Some root)) → only_root made ≡ Some left → tree_at now (Some sunk) ≡ keyed_collapsed (tree_at now (Some left))
+pub one_left : (old now : List TableNode) (root left sunk : Root) (z : Leaf) (made : List Link) → holds z (contents (bare (children_in (slice_get (node_views old) root.number)))) ≡ true
+    → row_of (node_views now) made ≡ removed_by_keys z (tree_at old (Some root)) → only_root made ≡ Some left → tree_at now (Some sunk) ≡ keyed_collapsed (tree_at now (Some left))
     → tree_at now (Some sunk) ≡ tree_without z (tree_at old (Some root))
 one_left old now root left sunk z made h r o s =
     s ∙ ap keyed_collapsed (sym (only_row now made left o) ∙ r) ∙ sym (without_some old root z h)
@@ -129,15 +129,15 @@ replaced_top : (z new : Leaf) (key : Key) (o : Option NodeView) → holds z (con
 replaced_top z new key None h = absurd cc
 replaced_top z new key (Some v) h = rw h refl
 
-only_tree : (nodes : List TableNode) (links : List Link) (o : Option Root) → only_root links ≡ o → lone (bare (row_of (views nodes) links)) ≡ true → tree_at nodes o ≡ row_of (views nodes) links
-only_tree nodes links None e l = let none = not_lone (views nodes) links e in absurd cc
+only_tree : (nodes : List TableNode) (links : List Link) (o : Option Root) → only_root links ≡ o → lone (bare (row_of (node_views nodes) links)) ≡ true → tree_at nodes o ≡ row_of (node_views nodes) links
+only_tree nodes links None e l = let none = not_lone (node_views nodes) links e in absurd cc
 only_tree nodes links (Some root) e l = sym (only_row nodes links root e)
 
-pub replaced_left : (old now : List TableNode) (root : Root) (o : Option Root) (z new : Leaf) (made : List Link) → holds z (contents (bare (children_in (slice_get (views old) root.number)))) ≡ true
-    → row_of (views now) made ≡ replaced_by_keys z new (tree_at old (Some root)) → only_root made ≡ o → tree_at now o ≡ replaced_by_keys z new (tree_at old (Some root))
+pub replaced_left : (old now : List TableNode) (root : Root) (o : Option Root) (z new : Leaf) (made : List Link) → holds z (contents (bare (children_in (slice_get (node_views old) root.number)))) ≡ true
+    → row_of (node_views now) made ≡ replaced_by_keys z new (tree_at old (Some root)) → only_root made ≡ o → tree_at now o ≡ replaced_by_keys z new (tree_at old (Some root))
 replaced_left old now root o z new made h r e =
     let P : KeyedRow → Type 0 = λ v. lone (bare v) ≡ true in
-    only_tree now made o e (subst P (sym r) (replaced_top z new root.key (slice_get (views old) root.number) h)) ∙ r
+    only_tree now made o e (subst P (sym r) (replaced_top z new root.key (slice_get (node_views old) root.number) h)) ∙ r
 
 pub option_linked : (nodes : List TableNode) (links : List Link) (o : Option Root) → AreLinksIn (length nodes) links → only_root links ≡ o → IsRootIn nodes o
 option_linked nodes links None h e = tt

@@ -13,7 +13,7 @@ use Rattle.index_media.specs.InsertionKeys.{inserted_bounded, with_leaf_bounded}
 use Rattle.index_media.specs.InsertionSound.{AreKeys, fits_node, node_level, inserted_grown, inserted_levelled, inserted_keys, first_is_key}
 use Rattle.index_media.specs.KeyedKeys.{AreKeysBounded}
 use Rattle.index_media.specs.KeyedRow.{KeyedRow, no_more, node_in, bare}
-use Rattle.table_nodes.specs.NodeView.{NodeView, node_before, row_of, view_of, views, tree_at}
+use Rattle.table_nodes.specs.NodeView.{NodeView, node_before, row_of, node_view_of, node_views, tree_at}
 use Rattle.table_nodes.specs.Sound.{IsSoundView, AreSoundViews}
 use Rattle.table_nodes.specs.Links.{IsLinkIn}
 use Rattle.node_table.specs.Staging.{root_by, only_root, IsSoundRoot, IsTopRow}
@@ -26,12 +26,12 @@ use Rattle.node_table.proofs.Staged.{link_counted}
 use Rattle.table_nodes.specs.NodeViewLaws.{opened, sound_at, views_length}
 
 -- the index below a root, by its node
-pub top_row : (f : ℕ) (nodes : List TableNode) (root : Root) (n : TableNode) → AreSoundViews f (views nodes) → IsSoundRoot nodes (Some root) → slice_get nodes root.number ≡ Some n
+pub top_row : (f : ℕ) (nodes : List TableNode) (root : Root) (n : TableNode) → AreSoundViews f (node_views nodes) → IsSoundRoot nodes (Some root) → slice_get nodes root.number ≡ Some n
     → IsTopRow f (n.level + 1) (tree_at nodes (Some root))
 top_row f nodes root n s r h =
     let there = opened f nodes root.number n s h in
-    let v = view_of (views nodes) n in
-    let sound = sound_at f (views nodes) root.number v s there in
+    let v = node_view_of (node_views nodes) n in
+    let sound = sound_at f (node_views nodes) root.number v s there in
     let is : tree_at nodes (Some root) ≡ node_in root.key v.place v.children no_more = ap (λ o. node_before root.key o no_more) there in
     let S : KeyedRow → Type 0 = λ t. (count (bare t) ≡ 1) × (fits f (bare t) ≡ true) × (levelled (n.level + 1) (bare t) ≡ true) in
     let same : n.level + 1 - 1 ≡ n.level = omega arith in
@@ -99,9 +99,9 @@ link_alone seen (ToNode key number) root e =
     let same : (record { key = key; number = number }) ≡ root = cc in
     ap (λ (r : Root). node_before r.key (slice_get seen r.number) no_more) same
 
-pub only_row : (nodes : List TableNode) (links : List Link) (root : Root) → only_root links ≡ Some root → row_of (views nodes) links ≡ tree_at nodes (Some root)
+pub only_row : (nodes : List TableNode) (links : List Link) (root : Root) → only_root links ≡ Some root → row_of (node_views nodes) links ≡ tree_at nodes (Some root)
 only_row nodes [] root e = absurd cc
-only_row nodes (link ∷ []) root e = link_alone (views nodes) link root e
+only_row nodes (link ∷ []) root e = link_alone (node_views nodes) link root e
 only_row nodes (link ∷ other ∷ links) root e = absurd cc
 
 with_lone : (f : ℕ) (new : Leaf) (row made : KeyedRow) → made ≡ inserted_by_keys f new row → lone (bare made) ≡ true → made ≡ with_leaf_by_keys f new row
@@ -111,10 +111,10 @@ with_lone f new row made e l =
     let own : lone (bare (inserted_by_keys f new row)) ≡ true = subst L e l in
     rw own e
 
-pub only_made : (f : ℕ) (nodes : List TableNode) (new : Leaf) (row : KeyedRow) (links : List Link) (root : Root) → row_of (views nodes) links ≡ inserted_by_keys f new row
+pub only_made : (f : ℕ) (nodes : List TableNode) (new : Leaf) (row : KeyedRow) (links : List Link) (root : Root) → row_of (node_views nodes) links ≡ inserted_by_keys f new row
     → only_root links ≡ Some root → tree_at nodes (Some root) ≡ with_leaf_by_keys f new row
 only_made f nodes new row links root e o =
-    with_lone f new row (tree_at nodes (Some root)) (sym (only_row nodes links root o) ∙ e) (node_lone root.key (slice_get (views nodes) root.number))
+    with_lone f new row (tree_at nodes (Some root)) (sym (only_row nodes links root o) ∙ e) (node_lone root.key (slice_get (node_views nodes) root.number))
 
 pub link_in : (n : ℕ) (link : Link) (root : Root) → root_by link ≡ Some root → IsLinkIn n link → root.number < n
 link_in n (ToLeaf x) root e h = absurd cc
@@ -122,11 +122,11 @@ link_in n (ToNode key number) root e h =
     let same : (record { key = key; number = number }) ≡ root = cc in
     subst (λ (r : Root). r.number < n) same h
 
-pub only_there : (f : ℕ) (nodes : List TableNode) (links : List Link) (root : Root) → fits f (bare (row_of (views nodes) links)) ≡ true → only_root links ≡ Some root → root.number < length nodes
+pub only_there : (f : ℕ) (nodes : List TableNode) (links : List Link) (root : Root) → fits f (bare (row_of (node_views nodes) links)) ≡ true → only_root links ≡ Some root → root.number < length nodes
 only_there f nodes [] root h o = absurd cc
 only_there f nodes (link ∷ []) root h o =
     let long = views_length nodes in
-    let low = link_in (length (views nodes)) link root o (links_there f (views nodes) (link ∷ []) h).0 in
+    let low = link_in (length (node_views nodes)) link root o (links_there f (node_views nodes) (link ∷ []) h).0 in
     omega (arith, low, long)
 only_there f nodes (link ∷ other ∷ links) root h o = absurd cc
 

@@ -26,25 +26,25 @@ AreChanges [] = ⊤
 AreChanges (change ∷ changes) = IsChange change × AreChanges changes
 
 -- an index after a change
-abbrev pub changed : ℕ → Change → KeyedRow → KeyedRow
-changed fanout (Insert x) row = with_leaf_by_keys fanout x row
-changed fanout (Remove x) row = tree_without x row
-changed fanout (Replace gone come) row = replaced_by_keys gone come row
-changed fanout (RemoveRange from to) row = without_range_by_keys (key_rank from) (key_rank to) row
+abbrev pub changed_row : ℕ → Change → KeyedRow → KeyedRow
+changed_row fanout (Insert x) row = with_leaf_by_keys fanout x row
+changed_row fanout (Remove x) row = tree_without x row
+changed_row fanout (Replace gone come) row = replaced_by_keys gone come row
+changed_row fanout (RemoveRange from to) row = without_range_by_keys (key_rank from) (key_rank to) row
 
 -- after several, the first one first
 abbrev pub changed_by : ℕ → List Change → KeyedRow → KeyedRow
 changed_by fanout [] row = row
-changed_by fanout (change ∷ changes) row = changed_by fanout changes (changed fanout change row)
+changed_by fanout (change ∷ changes) row = changed_by fanout changes (changed_row fanout change row)
 
 -- leaves after a change
-abbrev pub leaves_after : Change → List Leaf → List Leaf
-leaves_after (Insert x) xs = placed x xs
-leaves_after (Remove x) xs = without x xs
-leaves_after (Replace gone come) xs = swapped gone come xs
-leaves_after (RemoveRange from to) xs = outside_range (key_rank from) (key_rank to) xs
+abbrev pub leaves_after_change : Change → List Leaf → List Leaf
+leaves_after_change (Insert x) xs = placed x xs
+leaves_after_change (Remove x) xs = without x xs
+leaves_after_change (Replace gone come) xs = swapped gone come xs
+leaves_after_change (RemoveRange from to) xs = outside_range (key_rank from) (key_rank to) xs
 
 -- after several
 abbrev pub leaves_after_all : List Change → List Leaf → List Leaf
 leaves_after_all [] xs = xs
-leaves_after_all (change ∷ changes) xs = leaves_after_all changes (leaves_after change xs)
+leaves_after_all (change ∷ changes) xs = leaves_after_all changes (leaves_after_change change xs)

@@ -1,18 +1,9 @@
 -- Which nodes are clean: those that have a place, with all that is below them.
-use Rattle.std.specs.Prelude.{◌≡◌, ◌<◌, ◌&&◌, ◌||◌, ℕ, Bool, true, false, List, Option, None, Some, is_none, is_some, length, slice_get}
-use Rattle.std.specs.List.{list_all}
+use Rattle.std.specs.Prelude.{◌≡◌, ◌<◌, ◌&&◌, ℕ, Bool, true, false, List, Option, None, Some, is_some, length, slice_get}
 use Rattle.index_media.specs.Clean.{is_clean_row}
-use Rattle.table_nodes.specs.NodeView.{NodeView, views, children_in}
-use Rattle.node_table.specs.Pruning.{place_in}
+use Rattle.table_nodes.specs.NodeView.{NodeView, node_views, children_in}
+use Rattle.node_table.specs.Pruning.{stretch_in}
 use Rattle.table_nodes.specs.declared.node.TableNode.{TableNode}
-
--- whether a node is dirty, or all below it is clean too
-abbrev pub is_clean_below : NodeView → Bool
-is_clean_below v = is_none v.place || is_clean_row v.children
-
--- whether each node of which this is seen is so
-abbrev pub are_clean_below : List NodeView → Bool
-are_clean_below seen = list_all is_clean_below seen
 
 -- whether a node is there, and it and all below it are clean
 abbrev pub is_clean_node : Option NodeView → Bool
@@ -22,5 +13,5 @@ is_clean_node (Some v) = is_some v.place && is_clean_row v.children
 -- a dirty node of a table, below which all is clean: it can be written, and be given a place
 pub record IsReadyNode (nodes : List TableNode) (number : ℕ) : Type 0 where
   pub there : number < length nodes
-  pub dirty : place_in (slice_get (views nodes) number) ≡ None
-  pub below : is_clean_row (children_in (slice_get (views nodes) number)) ≡ true
+  pub dirty : stretch_in (slice_get (node_views nodes) number) ≡ None
+  pub below : is_clean_row (children_in (slice_get (node_views nodes) number)) ≡ true

@@ -18,14 +18,14 @@ IsExchange gone None = ⊤
 IsExchange gone (Some come) = (leaf_rank come ≡ leaf_rank gone) × IsKey come.key
 
 -- a row after a removal, or after a replacement by the leaf that comes
-abbrev pub exchanged : Leaf → Option Leaf → KeyedRow → KeyedRow
-exchanged gone None row = removed_by_keys gone row
-exchanged gone (Some come) row = replaced_by_keys gone come row
+abbrev pub exchanged_row : Leaf → Option Leaf → KeyedRow → KeyedRow
+exchanged_row gone None row = removed_by_keys gone row
+exchanged_row gone (Some come) row = replaced_by_keys gone come row
 
 -- the same of a node before a row, if the leaf stands below the node
 abbrev pub exchanged_node : Leaf → Option Leaf → Key → Option NodeView → KeyedRow → KeyedRow
 exchanged_node gone come key o rest =
-    if holds gone (contents (bare (children_in o))) then exchanged gone come (node_before key o rest) else node_before key o rest
+    if holds gone (contents (bare (children_in o))) then exchanged_row gone come (node_before key o rest) else node_before key o rest
 
 -- a link to the leaf that comes, if one does
 abbrev pub links_to : Option Leaf → List Link

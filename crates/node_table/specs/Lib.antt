@@ -6,4 +6,5 @@ pub mod Counting
 pub mod Pruning
 pub mod Clean
 pub mod Dirty
+pub mod Bounds
 pub mod Placing

@@ -11,14 +11,14 @@ use Rattle.table_nodes.specs.declared.link.Link.{Link}
 use Rattle.table_nodes.specs.declared.link.Link.TheVariants.{ToLeaf, ToNode}
 
 -- the place of a node, if it is there and clean
-abbrev pub place_in : Option NodeView → Option Stretch
-place_in None = None
-place_in (Some v) = v.place
+abbrev pub stretch_in : Option NodeView → Option Stretch
+stretch_in None = None
+stretch_in (Some v) = v.place
 
 -- what is left of a node before a row
 abbrev pub pruned_node : ℕ → ℕ → Key → Option NodeView → KeyedRow → KeyedRow
 pruned_node from to key o rest =
-    keyed_tidied (node_in key (place_without_range from to (children_in o) (place_in o)) (pruned_by_keys from to (children_in o)) rest)
+    keyed_tidied (node_in key (place_without_range from to (children_in o) (stretch_in o)) (pruned_by_keys from to (children_in o)) rest)
 
 -- what is left of what a link leads to, before a row
 abbrev pub pruned_link : ℕ → ℕ → List NodeView → Link → KeyedRow → KeyedRow

@@ -6,7 +6,7 @@ ghost use Rattle.index_tree.specs.Order.{first_after};
 ghost use Rattle.index_tree.specs.Shape.{contents};
 ghost use Rattle.index_media.specs.KeyedKeys.{AreKeysBounded};
 ghost use Rattle.index_media.specs.KeyedRow.{bare};
-ghost use Rattle.table_nodes.specs.NodeView.{views, row_of, children_in};
+ghost use Rattle.table_nodes.specs.NodeView.{node_views, row_of, children_in};
 ghost use Rattle.node_table.specs.Walk.{inside};
 
 use crate::table::NodeTable;
@@ -18,7 +18,7 @@ impl NodeTable {
     /// The first leaf of a greater rank below a node.
     #[cycle(following)]
     pub(crate) fn after_below(&self, number: u64, at: u128) -> Option<Leaf>
-        ensures { result ≡ first_after at (contents (bare (children_in (slice_get (views self.now.nodes.items) number)))) }
+        ensures { result ≡ first_after at (contents (bare (children_in (slice_get (node_views self.now.nodes.items) number)))) }
     {
         match self.links_of(number) {
             None => None,
@@ -32,8 +32,8 @@ impl NodeTable {
     /// The same of these links.
     #[cycle(following)]
     fn after_among(&self, links: &[Link], at: u128) -> Option<Leaf>
-        requires bounded { AreKeysBounded 0 None (row_of (views self.now.nodes.items) links.now) }
-        ensures { result ≡ first_after at (contents (bare (row_of (views self.now.nodes.items) links.now))) }
+        requires bounded { AreKeysBounded 0 None (row_of (node_views self.now.nodes.items) links.now) }
+        ensures { result ≡ first_after at (contents (bare (row_of (node_views self.now.nodes.items) links.now))) }
     {
         match links.split_first() {
             None => None,
@@ -52,7 +52,7 @@ impl NodeTable {
     /// The same of one link.
     #[cycle(following)]
     fn after_link(&self, link: &Link, at: u128) -> Option<Leaf>
-        ensures { result ≡ first_after at (contents (bare (inside (views self.now.nodes.items) link.now))) }
+        ensures { result ≡ first_after at (contents (bare (inside (node_views self.now.nodes.items) link.now))) }
     {
         match *link {
             Link::ToLeaf(leaf) => {

@@ -4,7 +4,7 @@ ghost use Rattle.std.specs.Prelude.{◌≡◌, ◌<◌, ◌∷◌, [], true, IfS
 ghost use Rattle.index_media.specs.Clean.{is_clean_row};
 ghost use Rattle.node_table.specs.Clean.{is_clean_node, IsReadyNode};
 ghost use Rattle.node_table.specs.Dirty.{dirty_lists, dirty_among, dirty_from, dirty_below};
-ghost use Rattle.table_nodes.specs.NodeView.{views, row_of, tree_at, IsRootIn};
+ghost use Rattle.table_nodes.specs.NodeView.{node_views, row_of, tree_at, IsRootIn};
 ghost use Rattle.table_nodes.specs.Links.{IsLinkIn, AreLinksIn};
 
 use crate::table::NodeTable;
@@ -31,7 +31,7 @@ impl NodeTable {
     fn first_dirty(&self, number: u64) -> Option<u64>
         ensures first { result ≡ slice_get (dirty_from self.now.nodes.items number) 0 }
         ensures ready { IfSome result (λ found. IsReadyNode self.now.nodes.items found) }
-        ensures none { number < length self.now.nodes.items → IfNone result (is_clean_node (slice_get (views self.now.nodes.items) number) ≡ true) }
+        ensures none { number < length self.now.nodes.items → IfNone result (is_clean_node (slice_get (node_views self.now.nodes.items) number) ≡ true) }
     {
         match self.node_at(number) {
             None => None,
@@ -53,7 +53,7 @@ impl NodeTable {
         requires there { AreLinksIn (length self.now.nodes.items) links.now }
         ensures first { result ≡ slice_get (dirty_among (dirty_lists self.now.nodes.items) links.now) 0 }
         ensures ready { IfSome result (λ found. IsReadyNode self.now.nodes.items found) }
-        ensures none { IfNone result (is_clean_row (row_of (views self.now.nodes.items) links.now) ≡ true) }
+        ensures none { IfNone result (is_clean_row (row_of (node_views self.now.nodes.items) links.now) ≡ true) }
     {
         match links.split_first() {
             None => None,
@@ -70,7 +70,7 @@ impl NodeTable {
         requires there { IsLinkIn (length self.now.nodes.items) link.now }
         ensures first { result ≡ slice_get (dirty_among (dirty_lists self.now.nodes.items) (link.now ∷ [])) 0 }
         ensures ready { IfSome result (λ found. IsReadyNode self.now.nodes.items found) }
-        ensures none { IfNone result (is_clean_row (row_of (views self.now.nodes.items) (link.now ∷ [])) ≡ true) }
+        ensures none { IfNone result (is_clean_row (row_of (node_views self.now.nodes.items) (link.now ∷ [])) ≡ true) }
     {
         match *link {
             Link::ToLeaf(_) => None,

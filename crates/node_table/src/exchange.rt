@@ -7,10 +7,10 @@ ghost use Rattle.index_tree.specs.declared.leaf.Leaf.{Leaf as ALeaf};
 ghost use Rattle.index_media.specs.KeyedKeys.{AreKeysBounded};
 ghost use Rattle.index_media.specs.KeyedRemoval.{replaced_by_keys};
 ghost use Rattle.index_media.specs.KeyedRow.{KeyedRow, no_more, bare};
-ghost use Rattle.node_table.specs.Exchange.{IsExchange, exchanged, exchanged_node, links_to};
-ghost use Rattle.table_nodes.specs.NodeView.{views, row_of, children_in};
+ghost use Rattle.node_table.specs.Exchange.{IsExchange, exchanged_row, exchanged_node, links_to};
+ghost use Rattle.table_nodes.specs.NodeView.{node_views, row_of, children_in};
 ghost use Rattle.table_nodes.specs.Sound.{IsSoundView};
-ghost use Rattle.table_nodes.specs.Links.{row_before, AreLinksIn, IsAdded};
+ghost use Rattle.table_nodes.specs.Links.{row_before, AreLinksIn, AreNodesAdded};
 
 use crate::table::NodeTable;
 use index_media::{
@@ -26,8 +26,8 @@ use ubifs_base::Memory;
 /// What is left of a node's children may be a node's, if any are left; a replacement leaves as many.
 fn exchange_keeps_nodes()
     ensures sound { (fanout level : ℕ) (gone : ALeaf) (come : Option ALeaf) (row : KeyedRow) → IsExchange gone come
-        → IsSoundView fanout (record { level = level; place = None; children = row }) → 0 < count (bare (exchanged gone come row))
-        → IsSoundView fanout (record { level = level; place = None; children = exchanged gone come row }) }
+        → IsSoundView fanout (record { level = level; place = None; children = row }) → 0 < count (bare (exchanged_row gone come row))
+        → IsSoundView fanout (record { level = level; place = None; children = exchanged_row gone come row }) }
     ensures number { (gone come : ALeaf) (row : KeyedRow) → count (bare (replaced_by_keys gone come row)) ≡ count (bare row) }
 {
     a_removal_keeps_what_nodes_are();
@@ -63,10 +63,10 @@ impl NodeTable {
         requires top { top.number < length self.old.nodes.items }
         requires there { AreLinksIn (length self.old.nodes.items) made.old.items }
         requires key { IsExchange gone.now come }
-        ensures found { IfOk result (λ found. found ≡ holds gone.now (contents (bare (children_in (slice_get (views self.old.nodes.items) top.number))))) }
-        ensures made { (rest : KeyedRow) → OnOk result (row_before (views self.new.nodes.items) made.new.items rest ≡ row_before (views self.old.nodes.items) made.old.items (exchanged_node gone.now come top.key (slice_get (views self.old.nodes.items) top.number) rest)) }
+        ensures found { IfOk result (λ found. found ≡ holds gone.now (contents (bare (children_in (slice_get (node_views self.old.nodes.items) top.number))))) }
+        ensures made { (rest : KeyedRow) → OnOk result (row_before (node_views self.new.nodes.items) made.new.items rest ≡ row_before (node_views self.old.nodes.items) made.old.items (exchanged_node gone.now come top.key (slice_get (node_views self.old.nodes.items) top.number) rest)) }
         ensures there { OnOk result (AreLinksIn (length self.new.nodes.items) made.new.items) }
-        ensures added { IsAdded self.old.nodes.items self.new.nodes.items }
+        ensures added { AreNodesAdded self.old.nodes.items self.new.nodes.items }
         ensures fanout { self.new.fanout ≡ self.old.fanout }
     {
         exchange_keeps_nodes();
@@ -96,14 +96,14 @@ impl NodeTable {
         come: Option<Leaf>,
         made: &mut Vec<Link>,
     ) -> Result<bool, Memory>
-        requires sound { fits self.old.fanout (bare (row_of (views self.old.nodes.items) links.now)) ≡ true }
-        requires bounded { AreKeysBounded 0 None (row_of (views self.old.nodes.items) links.now) }
+        requires sound { fits self.old.fanout (bare (row_of (node_views self.old.nodes.items) links.now)) ≡ true }
+        requires bounded { AreKeysBounded 0 None (row_of (node_views self.old.nodes.items) links.now) }
         requires there { AreLinksIn (length self.old.nodes.items) made.old.items }
         requires key { IsExchange gone.now come }
-        ensures found { IfOk result (λ found. found ≡ holds gone.now (contents (bare (row_of (views self.old.nodes.items) links.now)))) }
-        ensures made { OnOk result (row_before (views self.new.nodes.items) made.new.items no_more ≡ row_before (views self.old.nodes.items) made.old.items (exchanged gone.now come (row_of (views self.old.nodes.items) links.now))) }
+        ensures found { IfOk result (λ found. found ≡ holds gone.now (contents (bare (row_of (node_views self.old.nodes.items) links.now)))) }
+        ensures made { OnOk result (row_before (node_views self.new.nodes.items) made.new.items no_more ≡ row_before (node_views self.old.nodes.items) made.old.items (exchanged_row gone.now come (row_of (node_views self.old.nodes.items) links.now))) }
         ensures there { OnOk result (AreLinksIn (length self.new.nodes.items) made.new.items) }
-        ensures added { IsAdded self.old.nodes.items self.new.nodes.items }
+        ensures added { AreNodesAdded self.old.nodes.items self.new.nodes.items }
         ensures fanout { self.new.fanout ≡ self.old.fanout }
     {
         match links.split_first() {

@@ -5,7 +5,7 @@ ghost use Rattle.index_tree.specs.Order.{of_rank};
 ghost use Rattle.index_tree.specs.Shape.{contents};
 ghost use Rattle.index_media.specs.KeyedKeys.{AreKeysBounded};
 ghost use Rattle.index_media.specs.KeyedRow.{bare};
-ghost use Rattle.table_nodes.specs.NodeView.{views, row_of, children_in};
+ghost use Rattle.table_nodes.specs.NodeView.{node_views, row_of, children_in};
 ghost use Rattle.node_table.specs.Walk.{inside, IsNthOf};
 
 use crate::table::NodeTable;
@@ -16,7 +16,7 @@ use table_nodes::{Link, begin_below, begin_within, lower_links_passed};
 impl NodeTable {
     /// The leaf of this rank behind `nth` others of the same below a node; none where there are too few of them.
     pub(crate) fn nth_below(&self, number: u64, at: u128, nth: u32) -> Option<Leaf>
-        ensures { result ≡ slice_get (of_rank at (contents (bare (children_in (slice_get (views self.now.nodes.items) number))))) nth }
+        ensures { result ≡ slice_get (of_rank at (contents (bare (children_in (slice_get (node_views self.now.nodes.items) number))))) nth }
     {
         match self.find_below(number, at, nth) {
             Ok(leaf) => Some(leaf),
@@ -28,7 +28,7 @@ impl NodeTable {
     /// `nth` they leave.
     #[cycle(finding)]
     fn find_below(&self, number: u64, at: u128, nth: u32) -> Result<Leaf, u32>
-        ensures { IsNthOf (of_rank at (contents (bare (children_in (slice_get (views self.now.nodes.items) number))))) nth result }
+        ensures { IsNthOf (of_rank at (contents (bare (children_in (slice_get (node_views self.now.nodes.items) number))))) nth result }
     {
         match self.links_of(number) {
             None => Err(nth),
@@ -42,8 +42,8 @@ impl NodeTable {
     /// The same of these links.
     #[cycle(finding)]
     fn find_among(&self, links: &[Link], at: u128, nth: u32) -> Result<Leaf, u32>
-        requires bounded { AreKeysBounded 0 None (row_of (views self.now.nodes.items) links.now) }
-        ensures { IsNthOf (of_rank at (contents (bare (row_of (views self.now.nodes.items) links.now)))) nth result }
+        requires bounded { AreKeysBounded 0 None (row_of (node_views self.now.nodes.items) links.now) }
+        ensures { IsNthOf (of_rank at (contents (bare (row_of (node_views self.now.nodes.items) links.now)))) nth result }
     {
         match links.split_first() {
             None => Err(nth),
@@ -67,7 +67,7 @@ impl NodeTable {
     /// The same of one link.
     #[cycle(finding)]
     fn find_link(&self, link: &Link, at: u128, nth: u32) -> Result<Leaf, u32>
-        ensures { IsNthOf (of_rank at (contents (bare (inside (views self.now.nodes.items) link.now)))) nth result }
+        ensures { IsNthOf (of_rank at (contents (bare (inside (node_views self.now.nodes.items) link.now)))) nth result }
     {
         match *link {
             Link::ToLeaf(leaf) => one_of_rank(leaf, at, nth),

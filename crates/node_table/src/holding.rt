@@ -6,7 +6,7 @@ ghost use Rattle.index_tree.specs.Removal.{holds};
 ghost use Rattle.index_tree.specs.Shape.{contents};
 ghost use Rattle.index_media.specs.KeyedKeys.{AreKeysBounded};
 ghost use Rattle.index_media.specs.KeyedRow.{bare};
-ghost use Rattle.table_nodes.specs.NodeView.{views, row_of, children_in};
+ghost use Rattle.table_nodes.specs.NodeView.{node_views, row_of, children_in};
 ghost use Rattle.node_table.specs.Walk.{inside};
 
 use crate::table::NodeTable;
@@ -18,7 +18,7 @@ impl NodeTable {
     /// Whether a leaf stands below a node.
     #[cycle(holding)]
     pub(crate) fn holds_below(&self, number: u64, sought: &Leaf) -> bool
-        ensures { result ≡ holds sought.now (contents (bare (children_in (slice_get (views self.now.nodes.items) number)))) }
+        ensures { result ≡ holds sought.now (contents (bare (children_in (slice_get (node_views self.now.nodes.items) number)))) }
     {
         match self.links_of(number) {
             None => false,
@@ -34,8 +34,8 @@ impl NodeTable {
     #[cycle(holding)]
     fn holds_among(&self, links: &[Link], at: u128, sought: &Leaf) -> bool
         requires rank { at ≡ leaf_rank sought.now }
-        requires bounded { AreKeysBounded 0 None (row_of (views self.now.nodes.items) links.now) }
-        ensures { result ≡ holds sought.now (contents (bare (row_of (views self.now.nodes.items) links.now))) }
+        requires bounded { AreKeysBounded 0 None (row_of (node_views self.now.nodes.items) links.now) }
+        ensures { result ≡ holds sought.now (contents (bare (row_of (node_views self.now.nodes.items) links.now))) }
     {
         match links.split_first() {
             None => false,
@@ -57,7 +57,7 @@ impl NodeTable {
     /// The same of one link.
     #[cycle(holding)]
     fn holds_link(&self, link: &Link, sought: &Leaf) -> bool
-        ensures { result ≡ holds sought.now (contents (bare (inside (views self.now.nodes.items) link.now))) }
+        ensures { result ≡ holds sought.now (contents (bare (inside (node_views self.now.nodes.items) link.now))) }
     {
         match *link {
             Link::ToLeaf(leaf) => {

@@ -7,7 +7,7 @@ ghost use Rattle.index_tree.specs.LastBlock.{last_block, up_to};
 ghost use Rattle.index_tree.specs.Shape.{contents};
 ghost use Rattle.index_media.specs.KeyedKeys.{AreKeysBounded};
 ghost use Rattle.index_media.specs.KeyedRow.{bare};
-ghost use Rattle.table_nodes.specs.NodeView.{views, row_of, children_in};
+ghost use Rattle.table_nodes.specs.NodeView.{node_views, row_of, children_in};
 ghost use Rattle.node_table.specs.Walk.{inside};
 
 use crate::table::NodeTable;
@@ -18,7 +18,7 @@ use table_nodes::{Link, begin_within, links_passed};
 impl NodeTable {
     /// The greatest block leaf of this inode below a node, the last one of equals.
     pub(crate) fn last_block_below(&self, number: u64, ino: u32) -> Option<Leaf>
-        ensures { result ≡ last_block ino (contents (bare (children_in (slice_get (views self.now.nodes.items) number)))) }
+        ensures { result ≡ last_block ino (contents (bare (children_in (slice_get (node_views self.now.nodes.items) number)))) }
     {
         match self.last_below(number, last_rank(ino)) {
             None => None,
@@ -34,7 +34,7 @@ impl NodeTable {
     /// The last leaf of this rank or a lower one below a node.
     #[cycle(ending)]
     fn last_below(&self, number: u64, at: u128) -> Option<Leaf>
-        ensures { result ≡ last_or None (up_to at (contents (bare (children_in (slice_get (views self.now.nodes.items) number))))) }
+        ensures { result ≡ last_or None (up_to at (contents (bare (children_in (slice_get (node_views self.now.nodes.items) number))))) }
     {
         match self.links_of(number) {
             None => None,
@@ -51,8 +51,8 @@ impl NodeTable {
     /// The same of these links.
     #[cycle(ending)]
     fn last_among(&self, links: &[Link], at: u128) -> Option<Leaf>
-        requires bounded { AreKeysBounded 0 None (row_of (views self.now.nodes.items) links.now) }
-        ensures { result ≡ last_or None (up_to at (contents (bare (row_of (views self.now.nodes.items) links.now)))) }
+        requires bounded { AreKeysBounded 0 None (row_of (node_views self.now.nodes.items) links.now) }
+        ensures { result ≡ last_or None (up_to at (contents (bare (row_of (node_views self.now.nodes.items) links.now)))) }
     {
         match links.split_first() {
             None => None,
@@ -71,7 +71,7 @@ impl NodeTable {
     /// The same of one link.
     #[cycle(ending)]
     fn last_link(&self, link: &Link, at: u128) -> Option<Leaf>
-        ensures { result ≡ last_or None (up_to at (contents (bare (inside (views self.now.nodes.items) link.now)))) }
+        ensures { result ≡ last_or None (up_to at (contents (bare (inside (node_views self.now.nodes.items) link.now)))) }
     {
         match *link {
             Link::ToLeaf(leaf) => {

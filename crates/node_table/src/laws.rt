@@ -6,7 +6,7 @@ ghost use Rattle.index_media.specs.KeyedRow.{KeyedRow, all_clean, bare};
 ghost use Rattle.node_table.specs.Dirty.{dirty_below};
 ghost use Rattle.table_nodes.specs.NodeView.{tree_at, IsRootIn};
 ghost use Rattle.node_table.specs.Placing.{IsPlacedRow, KeepsPlaces, without_number};
-ghost use Rattle.table_nodes.specs.Links.{IsAdded};
+ghost use Rattle.table_nodes.specs.Links.{AreNodesAdded};
 ghost use Rattle.node_table.specs.Staging.{IsSoundRoot};
 ghost use Rattle.table_nodes.specs.declared.node.NodePlace.{NodePlace as APlace};
 ghost use Rattle.table_nodes.specs.declared.node.Root.{Root as ARoot};
@@ -15,10 +15,10 @@ ghost use Rattle.table_nodes.specs.declared.node.TableNode.{TableNode as ANode};
 /// A root of a table is one of the table with more nodes, a sound one is sound there, the same index stands below it,
 /// and the same nodes of it are dirty.
 pub fn roots_stay()
-    ensures there { (old new : List ANode) (root : Option ARoot) → IsAdded old new → IsRootIn old root → IsRootIn new root }
-    ensures sound { (old new : List ANode) (root : Option ARoot) → IsAdded old new → IsSoundRoot old root → IsSoundRoot new root }
-    ensures tree { (old new : List ANode) (root : Option ARoot) → IsAdded old new → IsRootIn old root → tree_at new root ≡ tree_at old root }
-    ensures dirty { (old new : List ANode) (root : Option ARoot) → IsAdded old new → IsRootIn old root → dirty_below new root ≡ dirty_below old root }
+    ensures there { (old new : List ANode) (root : Option ARoot) → AreNodesAdded old new → IsRootIn old root → IsRootIn new root }
+    ensures sound { (old new : List ANode) (root : Option ARoot) → AreNodesAdded old new → IsSoundRoot old root → IsSoundRoot new root }
+    ensures tree { (old new : List ANode) (root : Option ARoot) → AreNodesAdded old new → IsRootIn old root → tree_at new root ≡ tree_at old root }
+    ensures dirty { (old new : List ANode) (root : Option ARoot) → AreNodesAdded old new → IsRootIn old root → dirty_below new root ≡ dirty_below old root }
 {}
 
 /// Where all of a row is clean, it is a placed row: each of its nodes has a place.

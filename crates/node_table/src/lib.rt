@@ -6,6 +6,7 @@
 #![tactic(auto)]
 
 mod after;
+mod bounds;
 mod change;
 mod counting;
 mod counts;
@@ -28,6 +29,7 @@ mod staging;
 mod table;
 
 pub use crate::change::Change;
+pub use crate::counts::TreeCounts;
 pub use crate::laws::{clean_rows_are_placed, places_are_kept, roots_stay};
 pub use crate::range_removal::RangeRemoved;
 pub use crate::table::NodeTable;

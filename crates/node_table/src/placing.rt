@@ -3,7 +3,7 @@
 ghost use Rattle.std.specs.Prelude.{◌≡◌, Option, slice_get};
 ghost use Rattle.node_table.specs.Clean.{IsReadyNode};
 ghost use Rattle.node_table.specs.Dirty.{dirty_below};
-ghost use Rattle.table_nodes.specs.NodeView.{views, children_in, tree_at};
+ghost use Rattle.table_nodes.specs.NodeView.{node_views, children_in, tree_at};
 ghost use Rattle.node_table.specs.Placing.{with_place, IsPlacedRow, without_number};
 ghost use Rattle.node_table.specs.Staging.{IsSoundRoot};
 ghost use Rattle.table_nodes.specs.declared.node.Root.{Root as ARoot};
@@ -26,7 +26,7 @@ impl NodeTable {
     pub fn set_place(&mut self, number: u64, place: NodePlace)
         requires ready { IsReadyNode self.old.nodes.items number }
         ensures nodes { self.new.nodes.items ≡ with_place number place self.old.nodes.items }
-        ensures trees { (root : Option ARoot) → IsPlacedRow place (children_in (slice_get (views self.old.nodes.items) number)) (tree_at self.old.nodes.items root) (tree_at self.new.nodes.items root) }
+        ensures trees { (root : Option ARoot) → IsPlacedRow place (children_in (slice_get (node_views self.old.nodes.items) number)) (tree_at self.old.nodes.items root) (tree_at self.new.nodes.items root) }
         ensures dirty { (root : Option ARoot) → dirty_below self.new.nodes.items root ≡ without_number number (dirty_below self.old.nodes.items root) }
         ensures roots { (root : Option ARoot) → IsSoundRoot self.old.nodes.items root → IsSoundRoot self.new.nodes.items root }
         ensures fanout { self.new.fanout ≡ self.old.fanout }

@@ -6,10 +6,10 @@ ghost use Rattle.index_tree.specs.Shape.{contents, count, fits};
 ghost use Rattle.index_media.specs.KeyedKeys.{AreKeysBounded};
 ghost use Rattle.index_media.specs.KeyedRange.{pruned_by_keys};
 ghost use Rattle.index_media.specs.KeyedRow.{KeyedRow, no_more, bare};
-ghost use Rattle.table_nodes.specs.NodeView.{views, row_of, children_in};
+ghost use Rattle.table_nodes.specs.NodeView.{node_views, row_of, children_in};
 ghost use Rattle.node_table.specs.Pruning.{pruned_link, pruned_node};
 ghost use Rattle.table_nodes.specs.Sound.{IsSoundView};
-ghost use Rattle.table_nodes.specs.Links.{row_before, AreLinksIn, IsLinkIn, IsAdded};
+ghost use Rattle.table_nodes.specs.Links.{row_before, AreLinksIn, IsLinkIn, AreNodesAdded};
 ghost use Rattle.node_table.specs.Walk.{inside};
 
 use crate::table::NodeTable;
@@ -58,10 +58,10 @@ impl NodeTable {
     ) -> Result<u64, Memory>
         requires top { top.number < length self.old.nodes.items }
         requires there { AreLinksIn (length self.old.nodes.items) made.old.items }
-        ensures gone { IfOk result (λ gone. gone ≡ min (length (within_range from to (contents (bare (children_in (slice_get (views self.old.nodes.items) top.number)))))) (2 ^ 64 - 1)) }
-        ensures made { (rest : KeyedRow) → OnOk result (row_before (views self.new.nodes.items) made.new.items rest ≡ row_before (views self.old.nodes.items) made.old.items (pruned_node from to top.key (slice_get (views self.old.nodes.items) top.number) rest)) }
+        ensures gone { IfOk result (λ gone. gone ≡ min (length (within_range from to (contents (bare (children_in (slice_get (node_views self.old.nodes.items) top.number)))))) (2 ^ 64 - 1)) }
+        ensures made { (rest : KeyedRow) → OnOk result (row_before (node_views self.new.nodes.items) made.new.items rest ≡ row_before (node_views self.old.nodes.items) made.old.items (pruned_node from to top.key (slice_get (node_views self.old.nodes.items) top.number) rest)) }
         ensures there { OnOk result (AreLinksIn (length self.new.nodes.items) made.new.items) }
-        ensures added { IsAdded self.old.nodes.items self.new.nodes.items }
+        ensures added { AreNodesAdded self.old.nodes.items self.new.nodes.items }
         ensures fanout { self.new.fanout ≡ self.old.fanout }
     {
         pruning_keeps_nodes();
@@ -92,13 +92,13 @@ impl NodeTable {
         to: u128,
         made: &mut Vec<Link>,
     ) -> Result<u64, Memory>
-        requires sound { fits self.old.fanout (bare (row_of (views self.old.nodes.items) links.now)) ≡ true }
-        requires bounded { AreKeysBounded 0 None (row_of (views self.old.nodes.items) links.now) }
+        requires sound { fits self.old.fanout (bare (row_of (node_views self.old.nodes.items) links.now)) ≡ true }
+        requires bounded { AreKeysBounded 0 None (row_of (node_views self.old.nodes.items) links.now) }
         requires there { AreLinksIn (length self.old.nodes.items) made.old.items }
-        ensures gone { IfOk result (λ gone. gone ≡ min (length (within_range from to (contents (bare (row_of (views self.old.nodes.items) links.now))))) (2 ^ 64 - 1)) }
-        ensures made { OnOk result (row_before (views self.new.nodes.items) made.new.items no_more ≡ row_before (views self.old.nodes.items) made.old.items (pruned_by_keys from to (row_of (views self.old.nodes.items) links.now))) }
+        ensures gone { IfOk result (λ gone. gone ≡ min (length (within_range from to (contents (bare (row_of (node_views self.old.nodes.items) links.now))))) (2 ^ 64 - 1)) }
+        ensures made { OnOk result (row_before (node_views self.new.nodes.items) made.new.items no_more ≡ row_before (node_views self.old.nodes.items) made.old.items (pruned_by_keys from to (row_of (node_views self.old.nodes.items) links.now))) }
         ensures there { OnOk result (AreLinksIn (length self.new.nodes.items) made.new.items) }
-        ensures added { IsAdded self.old.nodes.items self.new.nodes.items }
+        ensures added { AreNodesAdded self.old.nodes.items self.new.nodes.items }
         ensures fanout { self.new.fanout ≡ self.old.fanout }
     {
         pruning_keeps_nodes();
@@ -132,10 +132,10 @@ impl NodeTable {
     ) -> Result<u64, Memory>
         requires link { IsLinkIn (length self.old.nodes.items) link.now }
         requires there { AreLinksIn (length self.old.nodes.items) made.old.items }
-        ensures gone { IfOk result (λ gone. gone ≡ min (length (within_range from to (contents (bare (inside (views self.old.nodes.items) link.now))))) (2 ^ 64 - 1)) }
-        ensures made { (rest : KeyedRow) → OnOk result (row_before (views self.new.nodes.items) made.new.items rest ≡ row_before (views self.old.nodes.items) made.old.items (pruned_link from to (views self.old.nodes.items) link.now rest)) }
+        ensures gone { IfOk result (λ gone. gone ≡ min (length (within_range from to (contents (bare (inside (node_views self.old.nodes.items) link.now))))) (2 ^ 64 - 1)) }
+        ensures made { (rest : KeyedRow) → OnOk result (row_before (node_views self.new.nodes.items) made.new.items rest ≡ row_before (node_views self.old.nodes.items) made.old.items (pruned_link from to (node_views self.old.nodes.items) link.now rest)) }
         ensures there { OnOk result (AreLinksIn (length self.new.nodes.items) made.new.items) }
-        ensures added { IsAdded self.old.nodes.items self.new.nodes.items }
+        ensures added { AreNodesAdded self.old.nodes.items self.new.nodes.items }
         ensures fanout { self.new.fanout ≡ self.old.fanout }
     {
         match *link {

@@ -5,7 +5,7 @@ ghost use Rattle.index_tree.specs.RangeRemoval.{within_range};
 ghost use Rattle.index_tree.specs.Shape.{contents};
 ghost use Rattle.index_media.specs.KeyedKeys.{AreKeysBounded};
 ghost use Rattle.index_media.specs.KeyedRow.{bare};
-ghost use Rattle.table_nodes.specs.NodeView.{views, row_of, children_in};
+ghost use Rattle.table_nodes.specs.NodeView.{node_views, row_of, children_in};
 ghost use Rattle.node_table.specs.Walk.{inside};
 
 use crate::pruning::is_in_range;
@@ -24,7 +24,7 @@ impl NodeTable {
         to: u128,
         leaves: &mut Vec<Leaf>,
     ) -> Result<(), Memory>
-        ensures { OnOk result (leaves.new.items ≡ leaves.old.items ++ within_range from to (contents (bare (children_in (slice_get (views self.now.nodes.items) number))))) }
+        ensures { OnOk result (leaves.new.items ≡ leaves.old.items ++ within_range from to (contents (bare (children_in (slice_get (node_views self.now.nodes.items) number))))) }
     {
         match self.links_of(number) {
             None => Ok(()),
@@ -44,8 +44,8 @@ impl NodeTable {
         to: u128,
         leaves: &mut Vec<Leaf>,
     ) -> Result<(), Memory>
-        requires bounded { AreKeysBounded 0 None (row_of (views self.now.nodes.items) links.now) }
-        ensures { OnOk result (leaves.new.items ≡ leaves.old.items ++ within_range from to (contents (bare (row_of (views self.now.nodes.items) links.now)))) }
+        requires bounded { AreKeysBounded 0 None (row_of (node_views self.now.nodes.items) links.now) }
+        ensures { OnOk result (leaves.new.items ≡ leaves.old.items ++ within_range from to (contents (bare (row_of (node_views self.now.nodes.items) links.now)))) }
     {
         match links.split_first() {
             None => Ok(()),
@@ -71,7 +71,7 @@ impl NodeTable {
         to: u128,
         leaves: &mut Vec<Leaf>,
     ) -> Result<(), Memory>
-        ensures { OnOk result (leaves.new.items ≡ leaves.old.items ++ within_range from to (contents (bare (inside (views self.now.nodes.items) link.now)))) }
+        ensures { OnOk result (leaves.new.items ≡ leaves.old.items ++ within_range from to (contents (bare (inside (node_views self.now.nodes.items) link.now)))) }
     {
         match *link {
             Link::ToLeaf(leaf) => {

@@ -5,7 +5,7 @@ ghost use Rattle.index_tree.specs.Order.{leaf_rank};
 ghost use Rattle.index_media.specs.KeyedRemoval.{keyed_collapsed, replaced_by_keys};
 ghost use Rattle.node_table.specs.Exchange.{tree_without};
 ghost use Rattle.table_nodes.specs.NodeView.{tree_at, IsRootIn};
-ghost use Rattle.table_nodes.specs.Links.{IsAdded};
+ghost use Rattle.table_nodes.specs.Links.{AreNodesAdded};
 ghost use Rattle.node_table.specs.Staging.{IsSoundRoot};
 ghost use Rattle.table_nodes.specs.declared.node.Root.{Root as ARoot};
 ghost use Rattle.ubifs_base.specs.Key.{IsKey};
@@ -49,7 +49,7 @@ impl NodeTable {
         ensures made { IfOk result (λ made. tree_at self.new.nodes.items made ≡ tree_without leaf.now (tree_at self.old.nodes.items root)) }
         ensures root { IfOk result (λ made. IsSoundRoot self.new.nodes.items made) }
         ensures kept { (other : Option ARoot) → IsRootIn self.old.nodes.items other → tree_at self.new.nodes.items other ≡ tree_at self.old.nodes.items other }
-        ensures added { IsAdded self.old.nodes.items self.new.nodes.items }
+        ensures added { AreNodesAdded self.old.nodes.items self.new.nodes.items }
         ensures fanout { self.new.fanout ≡ self.old.fanout }
     {
         a_removal_keeps_what_nodes_are();
@@ -83,7 +83,7 @@ impl NodeTable {
         ensures made { IfOk result (λ made. tree_at self.new.nodes.items made ≡ replaced_by_keys leaf.now new (tree_at self.old.nodes.items root)) }
         ensures root { IfOk result (λ made. IsSoundRoot self.new.nodes.items made) }
         ensures kept { (other : Option ARoot) → IsRootIn self.old.nodes.items other → tree_at self.new.nodes.items other ≡ tree_at self.old.nodes.items other }
-        ensures added { IsAdded self.old.nodes.items self.new.nodes.items }
+        ensures added { AreNodesAdded self.old.nodes.items self.new.nodes.items }
         ensures fanout { self.new.fanout ≡ self.old.fanout }
     {
         a_replacement_keeps_what_nodes_are();

@@ -3,7 +3,7 @@
 ghost use Rattle.std.specs.Prelude.{◌≡◌, ◌==◌, ◌++◌, OnOk, filter, slice_get};
 ghost use Rattle.index_tree.specs.Shape.{contents};
 ghost use Rattle.index_media.specs.KeyedRow.{bare};
-ghost use Rattle.table_nodes.specs.NodeView.{views, row_of, children_in};
+ghost use Rattle.table_nodes.specs.NodeView.{node_views, row_of, children_in};
 ghost use Rattle.node_table.specs.Walk.{inside};
 
 use crate::table::NodeTable;
@@ -20,7 +20,7 @@ impl NodeTable {
         lnum: u32,
         leaves: &mut Vec<Leaf>,
     ) -> Result<(), Memory>
-        ensures { OnOk result (leaves.new.items ≡ leaves.old.items ++ filter (λ x. x.lnum == lnum) (contents (bare (children_in (slice_get (views self.now.nodes.items) number))))) }
+        ensures { OnOk result (leaves.new.items ≡ leaves.old.items ++ filter (λ x. x.lnum == lnum) (contents (bare (children_in (slice_get (node_views self.now.nodes.items) number))))) }
     {
         match self.links_of(number) {
             None => Ok(()),
@@ -31,7 +31,7 @@ impl NodeTable {
     /// The same of these links.
     #[cycle(scanning)]
     fn push_among(&self, links: &[Link], lnum: u32, leaves: &mut Vec<Leaf>) -> Result<(), Memory>
-        ensures { OnOk result (leaves.new.items ≡ leaves.old.items ++ filter (λ x. x.lnum == lnum) (contents (bare (row_of (views self.now.nodes.items) links.now)))) }
+        ensures { OnOk result (leaves.new.items ≡ leaves.old.items ++ filter (λ x. x.lnum == lnum) (contents (bare (row_of (node_views self.now.nodes.items) links.now)))) }
     {
         match links.split_first() {
             None => Ok(()),
@@ -45,7 +45,7 @@ impl NodeTable {
     /// The same of one link.
     #[cycle(scanning)]
     fn push_link(&self, link: &Link, lnum: u32, leaves: &mut Vec<Leaf>) -> Result<(), Memory>
-        ensures { OnOk result (leaves.new.items ≡ leaves.old.items ++ filter (λ x. x.lnum == lnum) (contents (bare (inside (views self.now.nodes.items) link.now)))) }
+        ensures { OnOk result (leaves.new.items ≡ leaves.old.items ++ filter (λ x. x.lnum == lnum) (contents (bare (inside (node_views self.now.nodes.items) link.now)))) }
     {
         match *link {
             Link::ToLeaf(leaf) => {

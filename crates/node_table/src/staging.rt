@@ -1,13 +1,13 @@
 // Several changes are staged one over the other: all of them, or none.
 
 ghost use Rattle.std.specs.Prelude.{◌≡◌, IfOk, OnErr};
-ghost use Rattle.node_table.specs.Changing.{IsChange, AreChanges, changed, changed_by, leaves_after, leaves_after_all};
+ghost use Rattle.node_table.specs.Changing.{IsChange, AreChanges, changed_row, changed_by, leaves_after_change, leaves_after_all};
 ghost use Rattle.table_nodes.specs.NodeView.{tree_at, leaves_at};
-ghost use Rattle.table_nodes.specs.Links.{IsAdded};
+ghost use Rattle.table_nodes.specs.Links.{AreNodesAdded};
 ghost use Rattle.node_table.specs.Staging.{IsSoundRoot};
 
+use crate::bounds::truncate_both;
 use crate::change::Change;
-use crate::counting::truncate_both;
 use crate::table::NodeTable;
 use index_media::{
     a_range_removal_leaves_the_keys_of_branches, a_removal_leaves_the_keys_of_branches,
@@ -27,10 +27,10 @@ impl NodeTable {
     ) -> Result<Option<Root>, Memory>
         requires root { IsSoundRoot self.old.nodes.items root }
         requires change { IsChange change.now }
-        ensures made { IfOk result (λ made. tree_at self.new.nodes.items made ≡ changed self.old.fanout change.now (tree_at self.old.nodes.items root)) }
-        ensures leaves { IfOk result (λ made. leaves_at self.new.nodes.items made ≡ leaves_after change.now (leaves_at self.old.nodes.items root)) }
+        ensures made { IfOk result (λ made. tree_at self.new.nodes.items made ≡ changed_row self.old.fanout change.now (tree_at self.old.nodes.items root)) }
+        ensures leaves { IfOk result (λ made. leaves_at self.new.nodes.items made ≡ leaves_after_change change.now (leaves_at self.old.nodes.items root)) }
         ensures root { IfOk result (λ made. IsSoundRoot self.new.nodes.items made) }
-        ensures added { IsAdded self.old.nodes.items self.new.nodes.items }
+        ensures added { AreNodesAdded self.old.nodes.items self.new.nodes.items }
         ensures fanout { self.new.fanout ≡ self.old.fanout }
     {
         an_insertion_goes_by_the_keys_of_branches();
@@ -63,7 +63,7 @@ impl NodeTable {
         ensures made { IfOk result (λ made. tree_at self.new.nodes.items made ≡ changed_by self.old.fanout changes.now (tree_at self.old.nodes.items root)) }
         ensures leaves { IfOk result (λ made. leaves_at self.new.nodes.items made ≡ leaves_after_all changes.now (leaves_at self.old.nodes.items root)) }
         ensures root { IfOk result (λ made. IsSoundRoot self.new.nodes.items made) }
-        ensures added { IsAdded self.old.nodes.items self.new.nodes.items }
+        ensures added { AreNodesAdded self.old.nodes.items self.new.nodes.items }
         ensures fanout { self.new.fanout ≡ self.old.fanout }
     {
         let mut made = root;
@@ -88,7 +88,7 @@ impl NodeTable {
         ensures made { IfOk result (λ made. tree_at self.new.nodes.items made ≡ changed_by self.old.fanout changes.now (tree_at self.old.nodes.items root)) }
         ensures leaves { IfOk result (λ made. leaves_at self.new.nodes.items made ≡ leaves_after_all changes.now (leaves_at self.old.nodes.items root)) }
         ensures root { IfOk result (λ made. IsSoundRoot self.new.nodes.items made) }
-        ensures added { IsAdded self.old.nodes.items self.new.nodes.items }
+        ensures added { AreNodesAdded self.old.nodes.items self.new.nodes.items }
         ensures err { OnErr result (self.new.nodes.items ≡ self.old.nodes.items) }
         ensures fanout { self.new.fanout ≡ self.old.fanout }
     {
@@ -96,7 +96,7 @@ impl NodeTable {
         match self.stage_all(alloc, root, changes) {
             Ok(made) => Ok(made),
             Err(fault) => {
-                truncate_both(&mut self.nodes, &mut self.counts, number);
+                truncate_both(&mut self.nodes, &mut self.most_dirty, number);
                 Err(fault)
             }
         }

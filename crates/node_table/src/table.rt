@@ -7,15 +7,15 @@ ghost use Rattle.index_tree.specs.RangeRemoval.{within_range};
 ghost use Rattle.index_tree.specs.Removal.{holds};
 ghost use Rattle.index_media.specs.KeyedRow.{no_more, node_in};
 ghost use Rattle.table_nodes.specs.Beyond.{is_loaded, are_loaded};
-ghost use Rattle.node_table.specs.Clean.{is_clean_below, are_clean_below};
-ghost use Rattle.node_table.specs.Counting.{counts_of_all, counted-prop};
-ghost use Rattle.table_nodes.specs.NodeView.{views, view_of, row_of, stretch_at, tree_at, leaves_at, IsRootIn};
+ghost use Rattle.table_nodes.specs.Clean.{is_clean_below, are_clean_below};
+ghost use Rattle.node_table.specs.Bounds.{AreNoLonger, no_longer-prop};
+ghost use Rattle.node_table.specs.Dirty.{dirty_lists};
+ghost use Rattle.table_nodes.specs.NodeView.{node_views, node_view_of, row_of, stretch_at, tree_at, leaves_at, IsRootIn};
 ghost use Rattle.table_nodes.specs.Sound.{IsSoundView, AreSoundViews, sound_views-prop};
 ghost use Rattle.table_nodes.specs.declared.node.Root.{Root as ARoot};
 ghost use Rattle.ubifs_base.specs.declared.key.Key.{Key as AKey};
 
-use crate::counting::push_both;
-use crate::counts::TreeCounts;
+use crate::bounds::push_both;
 use index_tree::Leaf;
 use node_cache::rank;
 use std::alloc::Global;
@@ -28,14 +28,14 @@ use ubifs_base::{Key, Memory};
 #[derive(Drop)]
 pub struct NodeTable {
     pub(crate) nodes: Vec<TableNode>,
-    pub(crate) counts: Vec<TreeCounts>,
+    pub(crate) most_dirty: Vec<u64>,
     pub(crate) fanout: u32,
     ghost least: { 3 ≤ fanout },
     ghost most: { fanout ≤ 256 },
-    ghost sound: { AreSoundViews fanout (views nodes.items) } by { sound_views-prop fanout (views nodes.items) },
-    ghost clean: { are_clean_below (views nodes.items) ≡ true },
+    ghost sound: { AreSoundViews fanout (node_views nodes.items) } by { sound_views-prop fanout (node_views nodes.items) },
+    ghost clean: { are_clean_below (node_views nodes.items) ≡ true },
     ghost loaded: { are_loaded nodes.items ≡ true },
-    ghost counted: { counts.items ≡ counts_of_all fanout (views nodes.items) } by { counted-prop fanout counts.items (views nodes.items) },
+    ghost few: { AreNoLonger (dirty_lists nodes.items) most_dirty.items } by { no_longer-prop (dirty_lists nodes.items) most_dirty.items },
 }
 
 impl NodeTable {
@@ -48,7 +48,7 @@ impl NodeTable {
     {
         NodeTable {
             nodes: Vec::new(alloc),
-            counts: Vec::new(alloc),
+            most_dirty: Vec::new(alloc),
             fanout,
         }
     }
@@ -59,19 +59,19 @@ impl NodeTable {
     /// After `Memory` the table is as before.
     #[tactic(auto, using(crate::proofs::Adding::adding))]
     pub fn add(&mut self, node: TableNode) -> Result<u64, Memory>
-        requires sound { IsSoundView self.old.fanout (view_of (views self.old.nodes.items) node) }
-        requires clean { is_clean_below (view_of (views self.old.nodes.items) node) ≡ true }
+        requires sound { IsSoundView self.old.fanout (node_view_of (node_views self.old.nodes.items) node) }
+        requires clean { is_clean_below (node_view_of (node_views self.old.nodes.items) node) ≡ true }
         requires loaded { is_loaded node ≡ true }
-        ensures made { IfOk result (λ number. (key : AKey) → tree_at self.new.nodes.items (Some (record { key = key; number = number })) ≡ node_in key (stretch_at node.place) (row_of (views self.old.nodes.items) node.links.items) no_more) }
+        ensures made { IfOk result (λ number. (key : AKey) → tree_at self.new.nodes.items (Some (record { key = key; number = number })) ≡ node_in key (stretch_at node.place) (row_of (node_views self.old.nodes.items) node.links.items) no_more) }
         ensures added { OnOk result (self.new.nodes.items ≡ self.old.nodes.items ++ node ∷ []) }
         ensures number { IfOk result (λ number. number ≡ length self.old.nodes.items) }
         ensures kept { (root : Option ARoot) → IsRootIn self.old.nodes.items root → tree_at self.new.nodes.items root ≡ tree_at self.old.nodes.items root }
         ensures fanout { self.new.fanout ≡ self.old.fanout }
         ensures err { OnErr result (self.new.nodes.items ≡ self.old.nodes.items) }
     {
-        let own = self.counts_over(node.links.as_slice())?;
+        let most = self.most_dirty_with(&node)?;
         let number = self.nodes.len() as u64;
-        push_both(&mut self.nodes, &mut self.counts, node, own)?;
+        push_both(&mut self.nodes, &mut self.most_dirty, node, most)?;
         Ok(number)
     }
 

@@ -6,3 +6,6 @@ pub mod NodeViewLaws
 pub mod Links
 pub mod LinkLaws
 pub mod StubRows
+pub mod Clean
+pub mod Stubs
+pub mod StubLaws

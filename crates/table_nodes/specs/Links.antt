@@ -21,6 +21,6 @@ AreLinksIn n [] = ⊤
 AreLinksIn n (link ∷ links) = IsLinkIn n link × AreLinksIn n links
 
 -- nodes were added behind those that were there
-pub record IsAdded (old new : List TableNode) : Type 0 where
+pub record AreNodesAdded (old new : List TableNode) : Type 0 where
   pub more : List TableNode
   pub is : new ≡ old ++ more

@@ -50,8 +50,8 @@ row_of seen [] = no_more
 row_of seen (link ∷ links) = linked_before seen link (row_of seen links)
 
 -- what is seen of a node over others
-abbrev pub view_of : List NodeView → TableNode → NodeView
-view_of seen node = record {
+abbrev pub node_view_of : List NodeView → TableNode → NodeView
+node_view_of seen node = record {
   level = node.level;
   place = stretch_at node.place;
   children = children_by node.level node.place node.beyond (row_of seen node.links.items);
@@ -60,11 +60,11 @@ view_of seen node = record {
 -- what is seen of nodes, and of more nodes behind them, each over those before it
 abbrev pub views_behind : List NodeView → List TableNode → List NodeView
 views_behind seen [] = seen
-views_behind seen (node ∷ nodes) = views_behind (seen ++ view_of seen node ∷ []) nodes
+views_behind seen (node ∷ nodes) = views_behind (seen ++ node_view_of seen node ∷ []) nodes
 
 -- what is seen of the nodes of a table
-abbrev pub views : List TableNode → List NodeView
-views nodes = views_behind [] nodes
+abbrev pub node_views : List TableNode → List NodeView
+node_views nodes = views_behind [] nodes
 
 -- the row of the children of a node
 abbrev pub children_in : Option NodeView → KeyedRow
@@ -74,7 +74,7 @@ children_in (Some v) = v.children
 -- the index below a root; without a root it is empty
 abbrev pub tree_at : List TableNode → Option Root → KeyedRow
 tree_at nodes None = no_more
-tree_at nodes (Some root) = node_before root.key (slice_get (views nodes) root.number) no_more
+tree_at nodes (Some root) = node_before root.key (slice_get (node_views nodes) root.number) no_more
 
 -- its leaves from left to right
 abbrev pub leaves_at : List TableNode → Option Root → List Leaf

@@ -10,7 +10,7 @@ use Rattle.index_media.specs.KeyedRow.{KeyedRow, no_more, leaf_in, bare}
 use Rattle.told_value.specs.declared.told.Told.{Told}
 use Rattle.table_nodes.specs.Beyond.{children_by, is_loaded}
 use Rattle.table_nodes.specs.BeyondLaws.{loaded_row}
-use Rattle.table_nodes.specs.NodeView.{NodeView, stretch_at, node_before, linked_before, row_of, view_of, views_behind, views, children_in, tree_at, IsRootIn}
+use Rattle.table_nodes.specs.NodeView.{NodeView, stretch_at, node_before, linked_before, row_of, node_view_of, views_behind, node_views, children_in, tree_at, IsRootIn}
 use Rattle.table_nodes.specs.Sound.{IsSoundView, AreSoundViews}
 use Rattle.table_nodes.specs.declared.link.Link.{Link}
 use Rattle.table_nodes.specs.declared.link.Link.TheVariants.{ToLeaf, ToNode}
@@ -70,75 +70,75 @@ children_more fanout seen more links level (Some p) (Some told) f = refl
 pub views_more : (seen : List NodeView) (nodes : List TableNode) → (more : List NodeView) × (views_behind seen nodes ≡ seen ++ more)
 views_more seen [] = ([], sym (append-nil seen))
 views_more seen (n ∷ ns) =
-    let p = views_more (seen ++ view_of seen n ∷ []) ns in
-    (view_of seen n ∷ p.0, p.1 ∙ append_assoc seen (view_of seen n ∷ []) p.0)
+    let p = views_more (seen ++ node_view_of seen n ∷ []) ns in
+    (node_view_of seen n ∷ p.0, p.1 ∙ append_assoc seen (node_view_of seen n ∷ []) p.0)
 
 pub views_append : (seen : List NodeView) (xs ys : List TableNode) → views_behind seen (xs ++ ys) ≡ views_behind (views_behind seen xs) ys
 views_append seen [] ys = refl
-views_append seen (x ∷ xs) ys = views_append (seen ++ view_of seen x ∷ []) xs ys
+views_append seen (x ∷ xs) ys = views_append (seen ++ node_view_of seen x ∷ []) xs ys
 
-pub views_push : (nodes : List TableNode) (n : TableNode) → views (nodes ++ n ∷ []) ≡ views nodes ++ view_of (views nodes) n ∷ []
+pub views_push : (nodes : List TableNode) (n : TableNode) → node_views (nodes ++ n ∷ []) ≡ node_views nodes ++ node_view_of (node_views nodes) n ∷ []
 views_push nodes n = views_append [] nodes (n ∷ [])
 
 views_long : (seen : List NodeView) (nodes : List TableNode) → length (views_behind seen nodes) ≡ length seen + length nodes
 views_long seen [] = omega arith
 views_long seen (n ∷ ns) =
-    let more = views_long (seen ++ view_of seen n ∷ []) ns in
-    let one = length-append seen (view_of seen n ∷ []) in
+    let more = views_long (seen ++ node_view_of seen n ∷ []) ns in
+    let one = length-append seen (node_view_of seen n ∷ []) in
     omega (arith, more, one)
 
-pub views_length : (nodes : List TableNode) → length (views nodes) ≡ length nodes
+pub views_length : (nodes : List TableNode) → length (node_views nodes) ≡ length nodes
 views_length nodes = let long = views_long [] nodes in omega (arith, long)
 
 opened_behind : (fanout : ℕ) (seen : List NodeView) (nodes : List TableNode) (i : ℕ) (n : TableNode) → AreSoundViews fanout (views_behind seen nodes)
-    → slice_get nodes i ≡ Some n → slice_get (views_behind seen nodes) (length seen + i) ≡ Some (view_of (views_behind seen nodes) n)
+    → slice_get nodes i ≡ Some n → slice_get (views_behind seen nodes) (length seen + i) ≡ Some (node_view_of (views_behind seen nodes) n)
 opened_behind fanout seen [] i n s h = absurd cc
 opened_behind fanout seen (m ∷ ms) zero n s h =
-    let v = view_of seen m in
+    let v = node_view_of seen m in
     let whole = views_behind seen (m ∷ ms) in
     let p = views_more (seen ++ v ∷ []) ms in
     let all : whole ≡ seen ++ v ∷ p.0 = p.1 ∙ append_assoc seen (v ∷ []) p.0 in
     let place : length seen + 0 ≡ length seen = omega arith in
     let here : slice_get whole (length seen + 0) ≡ Some v = ap (λ k. slice_get whole k) place ∙ ap (λ w. slice_get w (length seen)) all ∙ get_seam seen v p.0 in
     let sound = sound_at fanout whole (length seen + 0) v s here in
-    let row : (view_of whole m).children ≡ v.children = ap (λ (w : List NodeView). (view_of w m).children) all ∙ children_more fanout seen (v ∷ p.0) m.links.items m.level m.place m.beyond (children_fit fanout v sound) in
-    let P : TableNode → Type 0 = λ t. slice_get whole (length seen + 0) ≡ Some (view_of whole t) in
+    let row : (node_view_of whole m).children ≡ v.children = ap (λ (w : List NodeView). (node_view_of w m).children) all ∙ children_more fanout seen (v ∷ p.0) m.links.items m.level m.place m.beyond (children_fit fanout v sound) in
+    let P : TableNode → Type 0 = λ t. slice_get whole (length seen + 0) ≡ Some (node_view_of whole t) in
     let same : m ≡ n = cc in
     subst P same (here ∙ ap (λ (r : KeyedRow). Some (record { level = m.level; place = stretch_at m.place; children = r })) (sym row))
 opened_behind fanout seen (m ∷ ms) (suc i) n s h =
-    let v = view_of seen m in
+    let v = node_view_of seen m in
     let whole = views_behind seen (m ∷ ms) in
     let one = length-append seen (v ∷ []) in
     let place : length (seen ++ v ∷ []) + i ≡ length seen + suc i = omega (arith, one) in
-    let P : ℕ → Type 0 = λ k. slice_get whole k ≡ Some (view_of whole n) in
+    let P : ℕ → Type 0 = λ k. slice_get whole k ≡ Some (node_view_of whole n) in
     subst P place (opened_behind fanout (seen ++ v ∷ []) ms i n s h)
 
 -- a node is seen over all nodes as it was over those before it
-pub opened : (fanout : ℕ) (nodes : List TableNode) (i : ℕ) (n : TableNode) → AreSoundViews fanout (views nodes) → slice_get nodes i ≡ Some n
-    → slice_get (views nodes) i ≡ Some (view_of (views nodes) n)
+pub opened : (fanout : ℕ) (nodes : List TableNode) (i : ℕ) (n : TableNode) → AreSoundViews fanout (node_views nodes) → slice_get nodes i ≡ Some n
+    → slice_get (node_views nodes) i ≡ Some (node_view_of (node_views nodes) n)
 opened fanout nodes i n s h =
-    let P : ℕ → Type 0 = λ k. slice_get (views nodes) k ≡ Some (view_of (views nodes) n) in
+    let P : ℕ → Type 0 = λ k. slice_get (node_views nodes) k ≡ Some (node_view_of (node_views nodes) n) in
     let same : length {A = NodeView} [] + i ≡ i = omega arith in
     subst P same (opened_behind fanout [] nodes i n s h)
 
-pub not_there : (nodes : List TableNode) (i : ℕ) → length nodes ≤ i → slice_get (views nodes) i ≡ None
-not_there nodes i h = let long = views_length nodes in slice_get_past (views nodes) i (omega (arith, h, long))
+pub not_there : (nodes : List TableNode) (i : ℕ) → length nodes ≤ i → slice_get (node_views nodes) i ≡ None
+not_there nodes i h = let long = views_length nodes in slice_get_past (node_views nodes) i (omega (arith, h, long))
 
 -- what a walk that opens a node knows of its links
 pub record Opened (nodes : List TableNode) (i : ℕ) (n : TableNode) : Type 0 where
-  pub children : children_in (slice_get (views nodes) i) ≡ row_of (views nodes) n.links.items
-  pub bounded : AreKeysBounded 0 None (row_of (views nodes) n.links.items)
+  pub children : children_in (slice_get (node_views nodes) i) ≡ row_of (node_views nodes) n.links.items
+  pub bounded : AreKeysBounded 0 None (row_of (node_views nodes) n.links.items)
 
-pub opened_node : (fanout : ℕ) (nodes : List TableNode) (i : ℕ) (n : TableNode) → AreSoundViews fanout (views nodes) → slice_get nodes i ≡ Some n → is_loaded n ≡ true → Opened nodes i n
+pub opened_node : (fanout : ℕ) (nodes : List TableNode) (i : ℕ) (n : TableNode) → AreSoundViews fanout (node_views nodes) → slice_get nodes i ≡ Some n → is_loaded n ≡ true → Opened nodes i n
 opened_node fanout nodes i n s h l =
     let there = opened fanout nodes i n s h in
-    let row = loaded_row (views nodes) n l in
-    let sound = sound_at fanout (views nodes) i (view_of (views nodes) n) s there in
+    let row = loaded_row (node_views nodes) n l in
+    let sound = sound_at fanout (node_views nodes) i (node_view_of (node_views nodes) n) s there in
     let P : KeyedRow → Type 0 = λ r. AreKeysBounded 0 None r in
     record { children = ap children_in there ∙ row; bounded = subst P row sound.2 }
 
 -- where there is no node, none has children
-pub none_opened : (nodes : List TableNode) (i : ℕ) → length nodes ≤ i → children_in (slice_get (views nodes) i) ≡ no_more
+pub none_opened : (nodes : List TableNode) (i : ℕ) → length nodes ≤ i → children_in (slice_get (node_views nodes) i) ≡ no_more
 none_opened nodes i h = ap children_in (not_there nodes i h)
 
 -- each node below a root has children, and not too many
@@ -147,8 +147,8 @@ view_fits : (fanout : ℕ) (seen : List NodeView) (key : Key) (i : ℕ) (o : Opt
 view_fits fanout seen key i None s e h = let v : NodeView = record { level = 0; place = None; children = no_more } in let there = sym e ∙ slice_get-get_or seen i v h in absurd cc
 view_fits fanout seen key i (Some v) s e h = (sound_at fanout seen i v s e).0
 
-pub root_fits : (fanout : ℕ) (nodes : List TableNode) (root : Option Root) → AreSoundViews fanout (views nodes) → IsRootIn nodes root → fits fanout (bare (tree_at nodes root)) ≡ true
+pub root_fits : (fanout : ℕ) (nodes : List TableNode) (root : Option Root) → AreSoundViews fanout (node_views nodes) → IsRootIn nodes root → fits fanout (bare (tree_at nodes root)) ≡ true
 root_fits fanout nodes None s h = refl
 root_fits fanout nodes (Some root) s h =
     let long = views_length nodes in
-    view_fits fanout (views nodes) root.key root.number (slice_get (views nodes) root.number) s refl (omega (arith, long, h))
+    view_fits fanout (node_views nodes) root.key root.number (slice_get (node_views nodes) root.number) s refl (omega (arith, long, h))

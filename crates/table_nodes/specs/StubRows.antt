@@ -15,6 +15,7 @@ use Rattle.rows_below.specs.RowBelow.{row_by}
 use Rattle.rows_below.specs.RowBelowLaws.{branches_read, row_read_back}
 use Rattle.ubi_volume.specs.Volume.{VolumeState}
 use Rattle.table_nodes.specs.Beyond.{branch_at_place, contents_told, lebs_held, place_by, row_told}
+use Rattle.node_cache.specs.CleanRows.{placed_again}
 
 get_first : (xs ys : List (List ℕ)) (i : ℕ) → i < length xs → slice_get (xs ++ ys) i ≡ slice_get xs i
 get_first [] ys i h = absurd (omega (arith, h))
@@ -84,11 +85,6 @@ row_on s fanout level branch row h =
 pub stands_at : (contents : ℕ → List ℕ) (branch : Branch) (said : Index) → IsIndexNodeAt contents branch said → IsIndexNodeAt contents (branch_at_place (place_by branch)) said
 stands_at contents branch said h = record { sqnum = h.sqnum; group = h.group; room = h.room; is = h.is }
 
-placed_clean : (row : PlacedRow) → placed_of (all_clean row) ≡ row
-placed_clean ended = refl
-placed_clean (leaf_at x rest) = ap (leaf_at x) (placed_clean rest)
-placed_clean (node_at branch children rest) = rw (placed_clean children, placed_clean rest) refl
-
 -- an index node stands at a place, with the branches that are told
 abbrev pub StandsAsTold : (ℕ → List ℕ) → List (List ℕ) → Branch → Type 0
 StandsAsTold contents lebs branch = (said : Index) × IsIndexNodeAt contents branch said × (said.branches ≡ (node_said_at (contents_told lebs) branch).branches)
@@ -101,5 +97,5 @@ told_stands contents lebs level levels branch h =
     let below = (node_said_at told branch).branches in (
       record { level = levels; branches = branches_of (placed_of (row_told lebs level branch)) },
       stands_at contents branch (record { level = levels; branches = branches_of (placed_of (row_told lebs level branch)) }) h,
-      ap branches_of (placed_clean (row_by told level below)) ∙ branches_read told level below,
+      ap branches_of (placed_again (row_by told level below)) ∙ branches_read told level below,
     )

@@ -7,17 +7,21 @@
 #![tactic(auto)]
 
 mod bisect;
+mod child_links;
 mod link;
 mod node;
 mod seen;
 mod stub_client;
+mod stub_node;
 mod stub_reading;
 mod stubs;
 
 pub use crate::bisect::{begin_below, begin_within, links_passed, lower_links_passed};
+pub use crate::child_links::push_children;
 pub use crate::link::Link;
 pub use crate::node::{NodePlace, Root, TableNode};
 pub use crate::seen::{MediumSeen, see_medium, tell_again};
-pub use crate::stub_client::{OpenedNode, open_on};
+pub use crate::stub_client::{OpenedNode, open_on, open_second};
+pub use crate::stub_node::{StubNode, stub_at};
 pub use crate::stub_reading::open_node;
 pub use crate::stubs::open_branches;

@@ -3,11 +3,13 @@
 ghost use Rattle.std.specs.Prelude.{◌≡◌, ◌<◌, OnOk, length};
 ghost use Rattle.index_media.specs.KeyedRow.{no_more};
 ghost use Rattle.node_cache.specs.Kept.{AreKept};
-ghost use Rattle.node_cache.specs.Loaded.{IsRead};
-ghost use Rattle.table_nodes.specs.Beyond.{branch_at_place, row_told};
-ghost use Rattle.table_nodes.specs.NodeView.{views};
-ghost use Rattle.table_nodes.specs.Links.{row_before, AreLinksIn, IsAdded};
+ghost use Rattle.node_cache.specs.Loaded.{IsReadOnlyCall};
+ghost use Rattle.rows_below.specs.NodeSaid.{node_said_at};
+ghost use Rattle.table_nodes.specs.Beyond.{branch_at_place, contents_told, row_told};
+ghost use Rattle.table_nodes.specs.NodeView.{node_views};
+ghost use Rattle.table_nodes.specs.Links.{row_before, AreLinksIn};
 ghost use Rattle.table_nodes.specs.StubRows.{StandsAsTold};
+ghost use Rattle.table_nodes.specs.Stubs.{AreStubs};
 
 use crate::link::Link;
 use crate::node::{NodePlace, TableNode};
@@ -38,10 +40,10 @@ pub fn open_node<V: Volume>(
     requires stands { StandsAsTold (V.state volume.old).holds told.now.value (branch_at_place place.now) }
     requires kept { AreKept (V.state volume.old).holds cache.old }
     requires there { AreLinksIn (length nodes.old.items) links.old.items }
-    ensures opened { OnOk result (row_before (views nodes.new.items) links.new.items no_more ≡ row_before (views nodes.old.items) links.old.items (row_told told.now.value level (branch_at_place place.now))) }
+    ensures opened { OnOk result (row_before (node_views nodes.new.items) links.new.items no_more ≡ row_before (node_views nodes.old.items) links.old.items (row_told told.now.value level (branch_at_place place.now))) }
     ensures there { OnOk result (AreLinksIn (length nodes.new.items) links.new.items) }
-    ensures added { IsAdded nodes.old.items nodes.new.items }
-    ensures reads { IsRead (V.state volume.old) (V.state volume.new) result }
+    ensures stubs { AreStubs told.now.value level (node_said_at (contents_told told.now.value) (branch_at_place place.now)).branches nodes.old.items nodes.new.items }
+    ensures reads { IsReadOnlyCall (V.state volume.old) (V.state volume.new) result }
     ensures kept { AreKept (V.state volume.new).holds cache.new }
 {
     let branch = Branch {

@@ -1,12 +1,13 @@
 // A node that isn't loaded is opened.
 
-ghost use Rattle.std.specs.Prelude.{◌≡◌, ◌<◌, OnOk, length};
+ghost use Rattle.std.specs.Prelude.{◌≡◌, ◌<◌, ◌∷◌, [], OnOk, length};
 ghost use Rattle.index_media.specs.KeyedRow.{KeyedRow, no_more, all_clean};
 ghost use Rattle.index_media.specs.PlacedRow.{leaf_of};
 ghost use Rattle.rows_below.specs.RowBelow.{row_by};
 ghost use Rattle.table_nodes.specs.Beyond.{child_before, contents_told};
-ghost use Rattle.table_nodes.specs.NodeView.{views};
-ghost use Rattle.table_nodes.specs.Links.{row_before, AreLinksIn, IsAdded};
+ghost use Rattle.table_nodes.specs.NodeView.{node_views};
+ghost use Rattle.table_nodes.specs.Links.{row_before, AreLinksIn};
+ghost use Rattle.table_nodes.specs.Stubs.{AreStubs};
 
 use crate::link::Link;
 use crate::node::{NodePlace, TableNode};
@@ -39,9 +40,9 @@ fn push_child(
     links: &mut Vec<Link>,
 ) -> Result<(), Memory>
     requires there { AreLinksIn (length nodes.old.items) links.old.items }
-    ensures pushed { (rest : KeyedRow) → OnOk result (row_before (views nodes.new.items) links.new.items rest ≡ row_before (views nodes.old.items) links.old.items (child_before told.now.value levels branch.now rest)) }
+    ensures pushed { (rest : KeyedRow) → OnOk result (row_before (node_views nodes.new.items) links.new.items rest ≡ row_before (node_views nodes.old.items) links.old.items (child_before told.now.value levels branch.now rest)) }
     ensures there { OnOk result (AreLinksIn (length nodes.new.items) links.new.items) }
-    ensures added { IsAdded nodes.old.items nodes.new.items }
+    ensures stubs { AreStubs told.now.value levels (branch.now ∷ []) nodes.old.items nodes.new.items }
 {
     if levels == 0 {
         links.push(Link::ToLeaf(leaf_by(branch)))?;
@@ -67,7 +68,7 @@ fn push_child(
 }
 
 /// Opens a node that isn't loaded, of which these branches were read: pushes links to its children, which are leaves, or nodes
-/// that are added and aren't loaded. They show the row that the node has told.
+/// that are added and aren't loaded. They show the row that the node has told. To each node that was added one of the branches leads.
 pub fn open_branches(
     alloc: Global,
     nodes: &mut Vec<TableNode>,
@@ -77,9 +78,9 @@ pub fn open_branches(
     links: &mut Vec<Link>,
 ) -> Result<(), Memory>
     requires there { AreLinksIn (length nodes.old.items) links.old.items }
-    ensures opened { OnOk result (row_before (views nodes.new.items) links.new.items no_more ≡ row_before (views nodes.old.items) links.old.items (all_clean (row_by (contents_told told.now.value) levels branches.now))) }
+    ensures opened { OnOk result (row_before (node_views nodes.new.items) links.new.items no_more ≡ row_before (node_views nodes.old.items) links.old.items (all_clean (row_by (contents_told told.now.value) levels branches.now))) }
     ensures there { OnOk result (AreLinksIn (length nodes.new.items) links.new.items) }
-    ensures added { IsAdded nodes.old.items nodes.new.items }
+    ensures stubs { AreStubs told.now.value levels branches.now nodes.old.items nodes.new.items }
 {
     match branches.split_first() {
         None => Ok(()),

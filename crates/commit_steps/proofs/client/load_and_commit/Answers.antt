@@ -10,7 +10,7 @@ use Rattle.media_sys.specs.declared.branch.Branch.{Branch}
 use Rattle.node_table.specs.Placing.{KeepsPlaces}
 use Rattle.ubi_volume.specs.Volume.{Only, filled}
 use Rattle.ubi_volume.specs.VolumeLaws.{Leaves-then}
-use Rattle.index_cache.specs.Paged.{frozen_of, tree_of}
+use Rattle.index_cache.specs.Paged.{frozen_of, keyed_tree_of}
 use Rattle.index_commit.specs.Lebs.{IsGiven}
 use Rattle.index_commit.specs.Written.{IsRootOf}
 use Rattle.commit_steps.specs.UnderWayLaws.{WorksBeside-keeps, WorksBeside-then, given_all, index_loaded, index_stays, seen_beside}
@@ -37,15 +37,15 @@ returns-clause-leaves g c = λ row on settled apart.
     let index = c.in_ok-index.index in
     let put = c.put_leaf.new.index in
     let final = c.commit_beside_puts.new.index in
-    let loaded : tree_of index ≡ all_clean row = c.in_ok-index.ensures.loaded row on in
+    let loaded : keyed_tree_of index ≡ all_clean row = c.in_ok-index.ensures.loaded row on in
     let first = index_loaded a row index (λ others two. c.changes_keep_what_stands.ensures.loaded a.holds others f c.args.root.now row on.index two) loaded settled in
     let read = seen_beside a b lebs index (WorksBeside-keeps a b lebs c.at_root.ensures.reads.keeps) first in
     let seen = c.in_ok-put_leaf.ensures.seen lebs (λ given. apart c.args.bud given (inl refl)) read in
-    let same : contents (bare (tree_of put)) ≡ placed leaf (contents (plain row)) =
+    let same : contents (bare (keyed_tree_of put)) ≡ placed leaf (contents (plain row)) =
     c.in_ok-put_leaf.ensures.leaves ∙ ap (λ (r : KeyedRow). placed leaf (contents (bare r))) loaded ∙ ap (λ (s : Shape). placed leaf (contents s)) (c.an_insertion_goes_by_the_keys_of_branches.ensures.clean row) in
-    if_ok_both (λ (at : Option Branch). IsRootOf e.holds f (frozen_of final) at × All (λ k. Only (e.holds k) (e.left_now k)) (lebs_of (placed_of (frozen_of final)))) (KeepsPlaces (tree_of put) (frozen_of final))
+    if_ok_both (λ (at : Option Branch). IsRootOf e.holds f (frozen_of final) at × All (λ k. Only (e.holds k) (e.left_now k)) (lebs_of (placed_of (frozen_of final)))) (KeepsPlaces (keyed_tree_of put) (frozen_of final))
     (λ (at : Option Branch). (now : KeyedRow) × (contents (bare now) ≡ placed leaf (contents (plain row))) × IsRootOf e.holds f now at) c.commit_beside_puts.result
-    (λ at root kept. (frozen_of final, ap contents (c.places_are_kept.ensures.shape (tree_of put) (frozen_of final) kept) ∙ same, root.0))
+    (λ at root kept. (frozen_of final, ap contents (c.places_are_kept.ensures.shape (keyed_tree_of put) (frozen_of final) kept) ∙ same, root.0))
     (c.commit_beside_puts.ensures.stands lebs apart seen) c.commit_beside_puts.ensures.frozen
 
 pub returns-clause-old_stays : goal.returns-clause-old_stays
@@ -58,7 +58,7 @@ returns-clause-old_stays g c = λ row on settled apart.
     let root = c.args.root.now in
     let lebs : List ℕ = lebs_of row in
     let index = c.in_ok-index.index in
-    let loaded : tree_of index ≡ all_clean row = c.in_ok-index.ensures.loaded row on in
+    let loaded : keyed_tree_of index ≡ all_clean row = c.in_ok-index.ensures.loaded row on in
     let first = index_loaded a row index (λ others two. c.changes_keep_what_stands.ensures.loaded a.holds others f root row on.index two) loaded settled in
     let keeps = WorksBeside-keeps a b lebs c.at_root.ensures.reads.keeps in
     let seen = c.in_ok-put_leaf.ensures.seen lebs (λ given. apart c.args.bud given (inl refl)) (seen_beside a b lebs index keeps first) in

@@ -2,7 +2,7 @@ use Rattle.std.proofs.Common.{◌++◌, sym, subst}
 use Rattle.index_media.specs.KeyedRow.{KeyedRow}
 use Rattle.node_table.specs.declared.change.Change.TheVariants.{Insert}
 use Rattle.ubi_volume.specs.Volume.{ChangeUnderWay}
-use Rattle.index_cache.specs.Paged.{fanout_of, tree_of}
+use Rattle.index_cache.specs.Paged.{fanout_of, keyed_tree_of}
 use Rattle.index_commit.specs.Standing.{AreOutside}
 use Rattle.commit_steps.specs.UnderWayLaws.{WorksBeside-on, commit_beside, index_changed, seen_beside, seen_changed}
 use Rattle.commit_steps.proofs.client.put_leaf.Goals as goal
@@ -32,7 +32,7 @@ returns-clause-kept g c = λ kept given apart way.
     index_changed b kept given old new
     (λ others out.
     let O : KeyedRow → Type 0 = λ r. AreOutside b.holds others r in
-    subst O (sym c.in_ok-insert.ensures.tree) (c.changes_keep_what_stands.ensures.changed (fanout_of old) (Insert c.args.leaf) b.holds others (tree_of old) c.trees_are_sound.ensures.fits out))
+    subst O (sym c.in_ok-insert.ensures.tree) (c.changes_keep_what_stands.ensures.changed (fanout_of old) (Insert c.args.leaf) b.holds others (keyed_tree_of old) c.trees_are_sound.ensures.fits out))
     c.insert.ensures.kept.frozen_tree (commit_beside a b kept given old beside way)
 
 pub returns-clause-seen : goal.returns-clause-seen
@@ -44,7 +44,7 @@ returns-clause-seen g c = λ lebs apart seen.
     seen_changed b lebs old c.insert.new.self
     (λ others out.
     let O : KeyedRow → Type 0 = λ r. AreOutside b.holds others r in
-    subst O (sym c.in_ok-insert.ensures.tree) (c.changes_keep_what_stands.ensures.changed (fanout_of old) (Insert c.args.leaf) b.holds others (tree_of old) c.trees_are_sound.ensures.fits out))
+    subst O (sym c.in_ok-insert.ensures.tree) (c.changes_keep_what_stands.ensures.changed (fanout_of old) (Insert c.args.leaf) b.holds others (keyed_tree_of old) c.trees_are_sound.ensures.fits out))
     (seen_beside a b lebs old beside seen)
 
 pub returns-clause-written : goal.returns-clause-written

@@ -4,15 +4,16 @@ use Rattle.index_media.specs.Clean.{is_clean_row}
 use Rattle.index_media.specs.KeyedRow.{KeyedRow, no_more, node_in, all_clean}
 use Rattle.index_media.specs.PlacedRow.{branches_of, stretch_of, leaf_of}
 use Rattle.media_sys.specs.Index.{Index}
-use Rattle.table_nodes.specs.NodeView.{views, row_of}
+use Rattle.table_nodes.specs.NodeView.{node_views, row_of}
 use Rattle.table_nodes.specs.Sound.{IsSoundView}
 use Rattle.table_nodes.specs.Links.{row_before, AreLinksIn}
 use Rattle.table_nodes.specs.declared.link.Link.{Link}
 use Rattle.table_nodes.specs.declared.link.Link.TheVariants.{ToLeaf, ToNode}
 use Rattle.index_cache.proofs.Links.{links_in_added, links_in_append, made_row, node_behind, leaf_behind}
 use Rattle.node_cache.specs.RowsOn.{row_moved, first_leaf, first_node, below, row_as}
-use Rattle.index_cache.proofs.Placed.{none_clean, all_is_clean, sound_below}
+use Rattle.index_cache.proofs.Placed.{none_clean, sound_below}
 use Rattle.index_cache.proofs.load.+loading.Goals as goal
+use Rattle.node_cache.specs.CleanRows.{all_is_clean}
 
 pub load_among-load_among-requires : goal.load_among-load_among-requires
 load_among-load_among-requires g t c κs within =
@@ -29,10 +30,10 @@ load_among-load_among-requires g t c κs within =
 pub load_among-returns-then-levels-eq0-clause-loaded : goal.load_among-returns-then-levels-eq0-clause-loaded
 load_among-returns-then-levels-eq0-clause-loaded g t c row e on =
     let a = g.V.Volume.state c.args.volume.now in
-    let seen = views c.args.table.now.nodes.items in
+    let seen = node_views c.args.table.now.nodes.items in
     let links = c.args.links.now.items in
     let p = first_leaf a c.args.table.now.fanout c.args.levels row c.in-Some.branch.now c.in-Some.rest.now c.if-levels-eq0.true (e ∙ c.in-Some.ensures.cases.0) on in
-    let Q : KeyedRow → Type 0 = λ r. OnOk c.load_among.result (row_before (views c.load_among.new.table.nodes.items) c.load_among.new.links.items no_more ≡ r) in
+    let Q : KeyedRow → Type 0 = λ r. OnOk c.load_among.result (row_before (node_views c.load_among.new.table.nodes.items) c.load_among.new.links.items no_more ≡ r) in
     let pushed = c.in_ok-push-in-Some.ensures.items ∙ ap (λ x. links ++ ToLeaf x ∷ []) c.leaf_of.ensures in
     subst Q (leaf_behind seen links c.push.new.self.items (leaf_of c.in-Some.branch.now) (all_clean p.others) pushed ∙ ap (λ r. row_before seen links (all_clean r)) (sym p.is))
     (c.load_among.ensures.loaded p.others p.branches p.on)
@@ -66,7 +67,7 @@ load_among-load_among-requires-in-Some g t c κs within =
 
 pub load_among-returns-in-None-clause-loaded : goal.load_among-returns-in-None-clause-loaded
 load_among-returns-in-None-clause-loaded g t c row e on =
-    ap (row_before (views c.args.table.now.nodes.items) c.args.links.now.items) (sym (none_clean row c.args.branches.now e c.in-None.ensures.cases))
+    ap (row_before (node_views c.args.table.now.nodes.items) c.args.links.now.items) (sym (none_clean row c.args.branches.now e c.in-None.ensures.cases))
 
 pub load_among-returns-in_ok-push-in-Some-2-clause-loaded : goal.load_among-returns-in_ok-push-in-Some-2-clause-loaded
 load_among-returns-in_ok-push-in-Some-2-clause-loaded g t c row e on =
@@ -83,9 +84,9 @@ load_among-returns-in_ok-push-in-Some-2-clause-loaded g t c row e on =
     let number = c.in_ok-number-in-Some.number in
     let later = row_as b f c.load_node.new.table.fanout c.args.levels c.args.levels p.others made.fanout refl (row_moved a b f c.args.levels p.others made.reads.keeps made.reads.shape p.on) in
     let node = made.loaded p.children p.alone branch.key (all_clean p.others) in
-    let Q : KeyedRow → Type 0 = λ r. OnOk c.load_among-in-Some.result (row_before (views c.load_among-in-Some.new.table.nodes.items) c.load_among-in-Some.new.links.items no_more ≡ r) in
+    let Q : KeyedRow → Type 0 = λ r. OnOk c.load_among-in-Some.result (row_before (node_views c.load_among-in-Some.new.table.nodes.items) c.load_among-in-Some.new.links.items no_more ≡ r) in
     subst Q (node_behind c.roots_stay.ensures.tree old now links c.push-in-Some.new.self.items branch.key number (Some (stretch_of branch)) (all_clean p.children) (all_clean p.others) made.added c.requires.there c.in_ok-push-in-Some-2.ensures.items node
-    ∙ ap (λ r. row_before (views old) links (all_clean r)) (sym p.is))
+    ∙ ap (λ r. row_before (node_views old) links (all_clean r)) (sym p.is))
     (c.load_among-in-Some.ensures.loaded p.others p.branches later)
 
 pub load_node-read_node-requires-clause-node : goal.load_node-read_node-requires-clause-node
@@ -123,7 +124,7 @@ load_node-add_clean-requires g t c =
     let loaded = c.in_ok-load_among.ensures.loaded own.0 branches (row_moved a b f c.args.level own.0 read.reads.keeps read.reads.shape p.on) in
     let is = made_row c.args.table.now.nodes.items c.load_among.new.table.nodes.items c.new-links.result.items c.load_among.new.links.items (all_clean own.0) c.new-links.ensures.items loaded in
     let P : KeyedRow → Type 0 = λ r. IsSoundView f (record { level = c.args.level; place = Some (stretch_of branch); children = r }) in
-    let F : ℕ → Type 0 = λ n. IsSoundView n (record { level = c.args.level; place = Some (stretch_of branch); children = row_of (views c.load_among.new.table.nodes.items) c.load_among.new.links.items }) in
+    let F : ℕ → Type 0 = λ n. IsSoundView n (record { level = c.args.level; place = Some (stretch_of branch); children = row_of (node_views c.load_among.new.table.nodes.items) c.load_among.new.links.items }) in
     record { clean = ap is_clean_row is ∙ all_is_clean own.0; sound = subst F (sym c.in_ok-load_among.ensures.fanout) (subst P (sym is) (sound_below a f c.args.level branch own.0 own.1)) }
 
 pub load_node-returns-clause-loaded : goal.load_node-returns-clause-loaded

@@ -2,7 +2,7 @@ use Rattle.std.proofs.Common.{◌≡◌, ◌++◌, ℕ, true, sym, subst}
 use Rattle.index_tree.specs.Shape.{Shape, fits}
 use Rattle.index_media.specs.KeyedRow.{KeyedRow, bare}
 use Rattle.node_table.specs.declared.change.Change.TheVariants.{Insert}
-use Rattle.index_cache.specs.Paged.{fanout_of, tree_of}
+use Rattle.index_cache.specs.Paged.{fanout_of, keyed_tree_of}
 use Rattle.index_commit.specs.Standing.{AreOutside, IsOutside}
 use Rattle.index_commit.proofs.Lebs.{given_front, said_less}
 use Rattle.index_commit.proofs.client.commit_twice.Goals as goal
@@ -12,7 +12,7 @@ write_seen-requires-clause-outside g c =
     let a = g.V.Volume.state c.args.volume.now in
     let lebs = c.args.lebs.now in
     let others = c.args.others.now in
-    said_less a.holds (IsOutside (lebs ++ others)) (IsOutside lebs) (tree_of c.args.index.now) (λ s n g out given. out (given_front lebs others s.lnum given)) c.requires.outside
+    said_less a.holds (IsOutside (lebs ++ others)) (IsOutside lebs) (keyed_tree_of c.args.index.now) (λ s n g out given. out (given_front lebs others s.lnum given)) c.requires.outside
 
 pub write_seen-requires-2-clause-outside : goal.write_seen-requires-2-clause-outside
 write_seen-requires-2-clause-outside g c =
@@ -23,7 +23,7 @@ write_seen-requires-2-clause-outside g c =
     let made = c.in_ok-_first.ensures in
     let A : KeyedRow → Type 0 = λ r. AreOutside b.holds others r in
     let S : Shape → Type 0 = λ s. fits (fanout_of one) s ≡ true in
-    let N : ℕ → Type 0 = λ n. fits n (bare (tree_of old)) ≡ true in
-    let fit = subst S (sym (c.places_are_kept.ensures.shape (tree_of old) (tree_of one) made.tree)) (subst N (sym c.write_seen.ensures.fanout) c.requires.fits) in
+    let N : ℕ → Type 0 = λ n. fits n (bare (keyed_tree_of old)) ≡ true in
+    let fit = subst S (sym (c.places_are_kept.ensures.shape (keyed_tree_of old) (keyed_tree_of one) made.tree)) (subst N (sym c.write_seen.ensures.fanout) c.requires.fits) in
     let stand = made.outside others c.requires.lebs.2 c.requires.outside in
-    subst A (sym c.in_ok-insert.ensures.tree) (c.changes_keep_what_stands.ensures.changed (fanout_of one) (Insert c.args.leaf) b.holds others (tree_of one) fit stand)
+    subst A (sym c.in_ok-insert.ensures.tree) (c.changes_keep_what_stands.ensures.changed (fanout_of one) (Insert c.args.leaf) b.holds others (keyed_tree_of one) fit stand)

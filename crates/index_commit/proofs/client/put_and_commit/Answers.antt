@@ -5,7 +5,7 @@ use Rattle.index_media.specs.Clean.{placed_of}
 use Rattle.index_media.specs.KeyedRow.{KeyedRow, all_clean, bare}
 use Rattle.index_media.specs.PlacedRow.{plain}
 use Rattle.node_table.specs.declared.change.Change.TheVariants.{Insert}
-use Rattle.index_cache.specs.Paged.{fanout_of, frozen_of, tree_of}
+use Rattle.index_cache.specs.Paged.{fanout_of, frozen_of, keyed_tree_of}
 use Rattle.ubifs_base.specs.RawOf.{raw_of}
 use Rattle.index_commit.specs.Rooms.{IsIndexLaidOut}
 use Rattle.index_commit.specs.Standing.{AreOutside, IsOutside}
@@ -26,14 +26,14 @@ write_index-requires-clause-outside g c =
     let index = c.in_ok-index.index in
     let frozen = frozen_of c.freeze.new.self in
     let stand = c.changes_keep_what_stands.ensures in
-    let loaded : tree_of index ≡ all_clean row = c.in_ok-index.ensures.loaded row on in
+    let loaded : keyed_tree_of index ≡ all_clean row = c.in_ok-index.ensures.loaded row on in
     let A : KeyedRow → Type 0 = λ r. AreOutside a.holds lebs r in
     let F : KeyedRow → Type 0 = λ r. fits (fanout_of index) (bare r) ≡ true in
     let N : ℕ → Type 0 = λ n. fits n (bare (all_clean row)) ≡ true in
     let S : Shape → Type 0 = λ s. fits f s ≡ true in
     let fit = subst F (sym loaded) (subst N (sym c.in_ok-index.ensures.fanout) (subst S (sym (c.an_insertion_goes_by_the_keys_of_branches.ensures.clean row)) on.index.fits)) in
     let before = subst A (sym loaded) (stand.loaded a.holds lebs f c.args.root.now row on.index c.requires.index.2) in
-    let after = stand.changed (fanout_of index) (Insert c.args.leaf) a.holds lebs (tree_of index) fit before in
+    let after = stand.changed (fanout_of index) (Insert c.args.leaf) a.holds lebs (keyed_tree_of index) fit before in
     let made = subst A (sym (c.freeze.ensures.frozen ∙ c.in_ok-insert.ensures.tree)) after in
     are_standing a.holds b.holds (IsOutside lebs) (IsOutside lebs) frozen (λ k. ([], c.at_root.ensures.reads.keeps.holds k ∙ sym (append-nil (a.holds k)))) (λ s n g given. given) made
 

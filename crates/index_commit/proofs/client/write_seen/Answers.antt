@@ -3,8 +3,8 @@ use Rattle.std.specs.Prelude.{Option}
 use Rattle.index_media.specs.KeyedRow.{KeyedRow}
 use Rattle.table_nodes.specs.NodeView.{tree_at}
 use Rattle.table_nodes.specs.declared.node.Root.{Root}
-use Rattle.index_cache.specs.Paged.{tree_of}
-use Rattle.index_commit.specs.Lebs.{AreApart}
+use Rattle.index_cache.specs.Paged.{keyed_tree_of}
+use Rattle.index_commit.specs.Lebs.{AreLebsApart}
 use Rattle.index_commit.specs.Standing.{AreOutside}
 use Rattle.index_commit.proofs.Lebs.{on_ok}
 use Rattle.index_commit.proofs.client.write_seen.Goals as goal
@@ -16,7 +16,7 @@ returns-clause-outside g c =
     let lebs = c.args.lebs.now in
     let begun = c.freeze.new.self in
     let final = c.write_index.new.index in
-    on_ok ((others : List ℕ) → AreApart lebs others → AreOutside a.holds (lebs ++ others) (tree_of c.args.index.now) → AreOutside b.holds others (tree_of final)) c.write_index.result
+    on_ok ((others : List ℕ) → AreLebsApart lebs others → AreOutside a.holds (lebs ++ others) (keyed_tree_of c.args.index.now) → AreOutside b.holds others (keyed_tree_of final)) c.write_index.result
     (λ done others two h.
     let A : KeyedRow → Type 0 = λ r. AreOutside a.holds (lebs ++ others) r in
     let B : Option Root → Type 0 = λ root. AreOutside b.holds others (tree_at final.table.nodes.items root) in

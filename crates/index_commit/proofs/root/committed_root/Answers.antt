@@ -3,9 +3,9 @@ use Rattle.std.specs.Prelude.{slice_get}
 use Rattle.index_media.specs.Clean.{is_clean_row, placed_of}
 use Rattle.index_cache.specs.Paged.{fanout_of, frozen_of}
 use Rattle.index_commit.specs.Standing.{IsOutside}
-use Rattle.index_commit.proofs.Committed.{all_is_clean}
 use Rattle.index_commit.proofs.Whole.{IsFrozenIndex, root_of}
 use Rattle.index_commit.proofs.root.committed_root.Goals as goal
+use Rattle.node_cache.specs.CleanRows.{all_is_clean}
 
 pub returns-in-Some-clause-clean : goal.returns-in-Some-clause-clean
 returns-in-Some-clause-clean c =

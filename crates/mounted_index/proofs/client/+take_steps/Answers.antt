@@ -3,7 +3,7 @@ use Rattle.ubifs_base.specs.Geometry.{index_nodes_per_leb}
 use Rattle.ubifs_base.specs.RawOf.{raw_of}
 use Rattle.ubifs_base.specs.declared.geometry.Geometry.{Geometry}
 use Rattle.commit_steps.specs.UnderWayLaws.{WorksBeside-none, WorksBeside-step, WorksBeside-then}
-use Rattle.index_commit.specs.Lebs.{AreApart, AreGivable}
+use Rattle.index_commit.specs.Lebs.{AreLebsApart, AreGivable}
 use Rattle.mounted_index.specs.Running.{AreStepsTaken}
 use Rattle.mounted_index.proofs.ClientSteps.{apart_later, apart_then, geometry_now, givable_now, given_at_first, given_since, number_later, number_most, on_ok_more}
 use Rattle.mounted_index.proofs.client.+take_steps.Goals as goal
@@ -21,7 +21,7 @@ returns-then-not-has_nodes_left-clause-taken g t c = λ row begun kept given h a
 
 pub returns-in_err-write_step-clause-beside : goal.returns-in_err-write_step-clause-beside
 returns-in_err-write_step-clause-beside g t c = λ others apart.
-    let L : List ℕ → Type 0 = λ l. AreApart others l in
+    let L : List ℕ → Type 0 = λ l. AreLebsApart others l in
     let all = subst L c.in-Some.ensures.cases.0 apart in
     WorksBeside-step (g.V.Volume.state c.args.volume.now) (g.V.Volume.state c.write_step.new.volume) c.in-Some.lnum.now others (λ given. all c.in-Some.lnum.now given (inl refl)) c.write_step.ensures.written.works
 
@@ -34,7 +34,7 @@ take_steps-requires g t c κs within =
     let is = c.in-Some.ensures.cases.0 in
     let long = ap length is in
     let own = c.requires.running in
-    let L : List ℕ → Type 0 = λ l. AreApart (own.3 ++ own.2) l in
+    let L : List ℕ → Type 0 = λ l. AreLebsApart (own.3 ++ own.2) l in
     let apart = subst L is own.5 in
     let V : List ℕ → Type 0 = λ l. AreGivable a.leb_cnt l in
     let lebs = subst V is c.requires.volume.1 in
@@ -61,7 +61,7 @@ returns-clause-taken g t c = λ row begun kept given h apart.
     let rest = c.in-Some.rest.now in
     let is = c.in-Some.ensures.cases.0 in
     let e = g.V.Volume.state c.take_steps.new.volume in
-    let L : List ℕ → Type 0 = λ l. AreApart (given ++ kept) l in
+    let L : List ℕ → Type 0 = λ l. AreLebsApart (given ++ kept) l in
     let all = subst L is apart in
     let V : List ℕ → Type 0 = λ l. AreGivable (g.V.Volume.state c.args.volume.now).leb_cnt l in
     let lebs = subst V is c.requires.volume.1 in
@@ -81,7 +81,7 @@ returns-clause-beside g t c = λ others apart.
     let a = g.V.Volume.state c.args.volume.now in
     let b = g.V.Volume.state c.write_step.new.volume in
     let lnum = c.in-Some.lnum.now in
-    let L : List ℕ → Type 0 = λ l. AreApart others l in
+    let L : List ℕ → Type 0 = λ l. AreLebsApart others l in
     let all = subst L c.in-Some.ensures.cases.0 apart in
     WorksBeside-then a b (g.V.Volume.state c.take_steps.new.volume) others (WorksBeside-step a b lnum others (λ given. all lnum given (inl refl)) c.write_step.ensures.written.works)
     (c.take_steps.ensures.beside others (apart_later others lnum c.in-Some.rest.now all))

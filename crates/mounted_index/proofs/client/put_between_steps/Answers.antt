@@ -6,7 +6,7 @@ use Rattle.index_media.specs.KeyedRow.{bare}
 use Rattle.index_tree.specs.Order.{leaf_rank, of_rank, placed}
 use Rattle.index_tree.specs.Shape.{Shape, contents}
 use Rattle.index_tree.specs.declared.leaf.Leaf.{Leaf}
-use Rattle.node_table.specs.Changing.{changed}
+use Rattle.node_table.specs.Changing.{changed_row}
 use Rattle.node_table.specs.declared.change.Change.TheVariants.{Insert}
 use Rattle.mounted_index.specs.RunningLaws.{KeepsRunning-read}
 use Rattle.mounted_index.proofs.Running.{bounded_kept}
@@ -63,7 +63,7 @@ returns-clause-put g c = λ row begun kept given h apart.
     let shape = c.places_are_kept.ensures.shape in
     let law = c.an_insertion_goes_by_the_keys_of_branches.ensures in
     let t1 = c.in_ok-take_steps.ensures.taken row begun kept given h (apart_first (given ++ kept) first rest apart) in
-    let made = changed f (Insert leaf) t1.now in
+    let made = changed_row f (Insert leaf) t1.now in
     let ch = (c.in_ok-change.ensures.running kept t1.since begun t1.now t1.running).0 in
     let fd = KeepsRunning-read s2 s3 c.change.new.self c.find.new.self c.find.ensures.reads.keeps c.find.ensures.reads.shape c.find.ensures.kept c.find.ensures.nodes kept t1.since begun made ch in
     let t2 = c.in_ok-take_steps-2.ensures.taken made begun kept t1.since fd (apart_since (first ∷ []) given kept t1.since rest t1.among (first_apart first rest c.requires.volume.1.1) (apart_later (given ++ kept) first rest apart)) in
@@ -90,7 +90,7 @@ find-requires g c =
     let own = c.requires.running in
     let t1 = c.in_ok-take_steps.ensures.taken own.0 own.1 own.2 own.3 own.4 (apart_first (own.3 ++ own.2) c.args.first c.args.rest.now own.5) in
     let ch = (c.in_ok-change.ensures.running own.2 t1.since own.1 t1.now t1.running).0 in
-    record { shown = (changed c.take_steps.new.index.geometry.fanout (Insert c.args.leaf) t1.now, ch.shown) }
+    record { shown = (changed_row c.take_steps.new.index.geometry.fanout (Insert c.args.leaf) t1.now, ch.shown) }
 
 pub take_steps-requires-2-clause-running : goal.take_steps-requires-2-clause-running
 take_steps-requires-2-clause-running g c =
@@ -100,7 +100,7 @@ take_steps-requires-2-clause-running g c =
     let first = c.args.first in
     let rest = c.args.rest.now in
     let t1 = c.in_ok-take_steps.ensures.taken own.0 own.1 own.2 own.3 own.4 (apart_first (own.3 ++ own.2) first rest own.5) in
-    let made = changed c.take_steps.new.index.geometry.fanout (Insert c.args.leaf) t1.now in
+    let made = changed_row c.take_steps.new.index.geometry.fanout (Insert c.args.leaf) t1.now in
     let ch = (c.in_ok-change.ensures.running own.2 t1.since own.1 t1.now t1.running).0 in
     let fd = KeepsRunning-read s2 s3 c.change.new.self c.find.new.self c.find.ensures.reads.keeps c.find.ensures.reads.shape c.find.ensures.kept c.find.ensures.nodes own.2 t1.since own.1 made ch in
     (made, own.1, own.2, t1.since, fd, apart_since (first ∷ []) own.3 own.2 t1.since rest t1.among (first_apart first rest c.requires.volume.1.1) (apart_later (own.3 ++ own.2) first rest own.5))

@@ -5,7 +5,7 @@ use Rattle.index_tree.specs.Shape.{Shape, contents}
 use Rattle.index_tree.specs.declared.leaf.Leaf.{Leaf}
 use Rattle.index_media.specs.KeyedRow.{all_clean, bare}
 use Rattle.index_media.specs.PlacedRow.{lebs_of, plain}
-use Rattle.node_table.specs.Changing.{changed}
+use Rattle.node_table.specs.Changing.{changed_row}
 use Rattle.node_table.specs.declared.change.Change.TheVariants.{Insert}
 use Rattle.mounted_index.specs.ShownLaws.{StandsIn-taken}
 use Rattle.mounted_index.proofs.client.put_commit_and_find.Goals as goal
@@ -19,7 +19,7 @@ commit-requires-clause-shown g c =
     let a = g.V.Volume.state c.args.volume.now in
     let changed_well = c.in_ok-change.ensures.changed (all_clean own.0) (c.in_ok-index.ensures.shown own.0 own.1) in
     let stands = StandsIn-taken c.changes_keep_what_stands.ensures.loaded a c.args.geometry.now.fanout c.args.root.now own.0 own.1 in (
-      changed c.in_ok-index.index.geometry.fanout (Insert c.args.leaf) (all_clean own.0),
+      changed_row c.in_ok-index.index.geometry.fanout (Insert c.args.leaf) (all_clean own.0),
       lebs_of own.0,
       record { shown = changed_well.done; stands = changed_well.stands (lebs_of own.0) stands; apart = own.2 },
     )
@@ -28,7 +28,7 @@ pub find-requires : goal.find-requires
 find-requires g c =
     let own = c.requires.index in
     let a = g.V.Volume.state c.args.volume.now in
-    let row = changed c.in_ok-index.index.geometry.fanout (Insert c.args.leaf) (all_clean own.0) in
+    let row = changed_row c.in_ok-index.index.geometry.fanout (Insert c.args.leaf) (all_clean own.0) in
     let changed_well = c.in_ok-change.ensures.changed (all_clean own.0) (c.in_ok-index.ensures.shown own.0 own.1) in
     let stands = StandsIn-taken c.changes_keep_what_stands.ensures.loaded a c.args.geometry.now.fanout c.args.root.now own.0 own.1 in
     let committed = c.in_ok-commit.ensures.committed row (lebs_of own.0) (record { shown = changed_well.done; stands = changed_well.stands (lebs_of own.0) stands; apart = own.2 }) in
@@ -41,7 +41,7 @@ returns g c = record {
       let leaf = c.args.leaf in
       let f = c.in_ok-index.index.geometry.fanout in
       let law = c.an_insertion_goes_by_the_keys_of_branches.ensures in
-      let made = changed f (Insert leaf) (all_clean row) in
+      let made = changed_row f (Insert leaf) (all_clean row) in
       let changed_well = c.in_ok-change.ensures.changed (all_clean row) (c.in_ok-index.ensures.shown row on) in
       let stands = StandsIn-taken c.changes_keep_what_stands.ensures.loaded a c.args.geometry.now.fanout c.args.root.now row on in
       let committed = c.in_ok-commit.ensures.committed made (lebs_of row) (record { shown = changed_well.done; stands = changed_well.stands (lebs_of row) stands; apart = apart }) in

@@ -4,7 +4,7 @@ use Rattle.ubifs_base.specs.Geometry.{index_nodes_per_leb}
 use Rattle.ubifs_base.specs.RawOf.{raw_of}
 use Rattle.index_tree.specs.Shape.{fits}
 use Rattle.index_media.specs.KeyedRow.{KeyedRow, bare}
-use Rattle.index_cache.specs.Paged.{dirty_of, fanout_of, frozen_of, tree_of}
+use Rattle.index_cache.specs.Paged.{dirty_of, fanout_of, frozen_of, keyed_tree_of}
 use Rattle.index_cache.specs.declared.paged.PagedIndex.{PagedIndex}
 use Rattle.index_commit.specs.Ordered.{AreKeysInOrder}
 use Rattle.index_commit.specs.Rooms.{IsIndexLaidOut}
@@ -24,7 +24,7 @@ write_index-requires-clause-outside g c =
     let lebs = c.args.lebs.now in
     let own = c.requires.stands in
     let A : KeyedRow → Type 0 = λ r. AreOutside a.holds lebs r in
-    subst A (sym c.freeze.ensures.frozen) (outside_of a.holds own.0 lebs (tree_of c.args.index.now) own.2 own.1.within)
+    subst A (sym c.freeze.ensures.frozen) (outside_of a.holds own.0 lebs (keyed_tree_of c.args.index.now) own.2 own.1.within)
 
 pub returns-clause-at : goal.returns-clause-at
 returns-clause-at g c =
@@ -39,9 +39,9 @@ returns-clause-at g c =
     let own = c.requires.stands in
     let kept = c.write_index.ensures.index.kept in
     let F : KeyedRow → Type 0 = λ r. fits (fanout_of begun) (bare r) ≡ true in
-    let same : frozen_of begun ≡ tree_of begun = c.freeze.ensures.frozen ∙ sym c.freeze.ensures.tree in
+    let same : frozen_of begun ≡ keyed_tree_of begun = c.freeze.ensures.frozen ∙ sym c.freeze.ensures.tree in
     let fit = subst F (sym same) c.trees_are_sound.ensures.fits in
-    if_ok_done (λ (at : IndexAt). IsIndexAt b geo.fanout lebs begun final at × IsIndexLaidOut geo lebs nodes begun final at) (IsWrittenAt b geo lebs nodes (tree_of old) (tree_of final)) c.write_index.result
+    if_ok_done (λ (at : IndexAt). IsIndexAt b geo.fanout lebs begun final at × IsIndexLaidOut geo lebs nodes begun final at) (IsWrittenAt b geo lebs nodes (keyed_tree_of old) (keyed_tree_of final)) c.write_index.result
     (λ done at h.
     let stands = seen_stands a b own.0 lebs old begun final c.args.sqnum.now c.write_index.new.sqnum c.write_index.ensures.answer.0.shape c.requires.lebs own.2 (c.write_index.ensures.standing done).0
     kept.roots.root c.freeze.ensures.tree own.1 in
@@ -51,7 +51,7 @@ returns-clause-at g c =
 
 pub returns-clause-tree : goal.returns-clause-tree
 returns-clause-tree g c =
-    let K : KeyedRow → Type 0 = λ r. KeepsPlaces r (tree_of c.write_index.new.index) in
+    let K : KeyedRow → Type 0 = λ r. KeepsPlaces r (keyed_tree_of c.write_index.new.index) in
     subst K c.freeze.ensures.tree c.write_index.ensures.index.kept.tree
 
 pub returns-clause-want : goal.returns-clause-want
@@ -62,8 +62,8 @@ returns-clause-want g c =
     let answer = c.write_index.ensures.answer in
     let taken = c.write_index.ensures.index in
     want_of _ _ _ _ _ c.write_index.result answer.1 answer.4
-    (λ full. (full.0, ap tree_of full.1 ∙ c.freeze.ensures.tree, number_same begun final c.args.sqnum.now c.write_index.new.sqnum taken full.1))
-    (λ none. (none.volume, ap tree_of none.index ∙ c.freeze.ensures.tree, none.number))
+    (λ full. (full.0, ap keyed_tree_of full.1 ∙ c.freeze.ensures.tree, number_same begun final c.args.sqnum.now c.write_index.new.sqnum taken full.1))
+    (λ none. (none.volume, ap keyed_tree_of none.index ∙ c.freeze.ensures.tree, none.number))
 
 pub returns-clause-same : goal.returns-clause-same
 returns-clause-same g c =
@@ -116,4 +116,4 @@ pub returns-then-dirty_nodes-gt-MOST_NODES-clause-stands : goal.returns-then-dir
 returns-then-dirty_nodes-gt-MOST_NODES-clause-stands g c = λ kept stands two fine.
     let a = g.V.Volume.state c.args.volume.now in
     let S : KeyedRow → Type 0 = λ r. StandsIn a (c.args.lebs.now ++ kept) r in
-    subst S (sym c.freeze.ensures.tree) (stands_more a kept c.args.lebs.now (tree_of c.args.index.now) c.requires.lebs stands)
+    subst S (sym c.freeze.ensures.tree) (stands_more a kept c.args.lebs.now (keyed_tree_of c.args.index.now) c.requires.lebs stands)

@@ -4,7 +4,7 @@ use Rattle.media_sys.specs.Index.{Index}
 use Rattle.node_cache.specs.RowsOn.{below}
 use Rattle.rows_below.specs.NodeSaid.{node_said_at}
 use Rattle.table_nodes.specs.Beyond.{branch_at_place, contents_told, place_by, row_told}
-use Rattle.table_nodes.specs.NodeView.{views}
+use Rattle.table_nodes.specs.NodeView.{node_views}
 use Rattle.table_nodes.specs.Links.{row_before, AreLinksIn}
 use Rattle.table_nodes.specs.StubRows.{row_on, said_on, stands_at}
 use Rattle.table_nodes.specs.declared.link.Link.{Link}
@@ -38,6 +38,6 @@ returns-clause-shown g c = λ fanout row on.
     let branch = c.args.branch.now in
     let own = c.in_ok-open_node.ensures in
     own.opened
-    ∙ ap (λ (l : List Link). row_before (views c.new-nodes.result.items) l (row_told c.see_medium-told.result.value c.args.level (branch_at_place (place_by branch)))) c.new-links.ensures.items
+    ∙ ap (λ (l : List Link). row_before (node_views c.new-nodes.result.items) l (row_told c.see_medium-told.result.value c.args.level (branch_at_place (place_by branch)))) c.new-links.ensures.items
     ∙ ap (λ (l : List (List ℕ)). row_told l c.args.level branch) c.see_medium-told.ensures
     ∙ row_on s fanout c.args.level branch row on

@@ -3,7 +3,7 @@ use Rattle.index_media.specs.Clean.{placed_of}
 use Rattle.index_media.specs.KeyedRow.{bare}
 use Rattle.index_tree.specs.Levels.{levelled}
 use Rattle.index_media.specs.PlacedRow.{branches_of}
-use Rattle.table_nodes.specs.NodeView.{views, children_in}
+use Rattle.table_nodes.specs.NodeView.{node_views, children_in}
 use Rattle.index_cache.specs.Commit.{level_in}
 use Rattle.index_cache.proofs.Written.{few_children}
 use Rattle.index_cache.proofs.paged.PagedIndex.level_of.Goals as goal
@@ -27,5 +27,5 @@ pub returns-in-Some-clause-most : goal.returns-in-Some-clause-most
 returns-in-Some-clause-most c =
     let t = c.args.self.now.table in
     let whole = ap (λ o. length (branches_of (placed_of (children_in o)))) c.in-Some.ensures.seen in
-    let few = few_children t.fanout (views t.nodes.items) c.in-Some.found.now c.in-Some.ensures.sound in
+    let few = few_children t.fanout (node_views t.nodes.items) c.in-Some.found.now c.in-Some.ensures.sound in
     omega (arith, whole, few)

@@ -1,7 +1,7 @@
 use Rattle.std.proofs.Common.{ℕ, ◌+◌, ◌-◌, ◌≤◌, ◌∙◌, ap, sym, subst, refl}
 use Rattle.std.specs.Prelude.{IfOk, Result}
 use Rattle.ubifs_base.specs.RawOf.{raw_of}
-use Rattle.index_cache.specs.Paged.{tree_of}
+use Rattle.index_cache.specs.Paged.{keyed_tree_of}
 use Rattle.index_commit.specs.declared.index_at.IndexAt.{IndexAt}
 use Rattle.index_commit.specs.declared.index_fault.IndexFault.{IndexFault}
 use Rattle.mounted_index.specs.Committed.{IsWrittenAt, OnWant, nodes_to_write}
@@ -31,12 +31,12 @@ returns-in-Ok-clause-committed g c = λ row kept h.
     let final = c.write_seen-written.new.index in
     let after : MountedIndex = record { geometry = self.geometry; nodes = c.nodes_of.result; cache = c.clear.new.self } in
     let w = c.write_seen-written.ensures in
-    let A : Result IndexAt IndexFault → Type 0 = λ r. IfOk r (IsWrittenAt b (raw_of self.geometry) c.args.lebs.now (c.write_seen-written.new.sqnum - c.args.sqnum.now) (tree_of index) (tree_of final)) in
+    let A : Result IndexAt IndexFault → Type 0 = λ r. IfOk r (IsWrittenAt b (raw_of self.geometry) c.args.lebs.now (c.write_seen-written.new.sqnum - c.args.sqnum.now) (keyed_tree_of index) (keyed_tree_of final)) in
     let at = subst A c.in-Ok.is w.at in
     let W : Result IndexAt IndexFault → Type 0 = λ r. OnWant (KeepsShown a b self after) r in
     commit_seen a b c.args.lebs.now kept c.args.sqnum.now c.write_seen-written.new.sqnum self after row index final c.write_seen-written.result c.in-InMemory.is h
     (record { places = w.tree; at = w.at; untouched = w.want; full = w.full; stands = λ s two fine. w.stands kept s two fine; order = w.order })
-    (record { nodes = nodes_let_go b f (tree_of final) c.in-Ok.at.root c.nodes_of.result at.root c.nodes_of.ensures; kept = c.clear.ensures.kept b.holds }) (subst W (sym c.in-Ok.is) tt)
+    (record { nodes = nodes_let_go b f (keyed_tree_of final) c.in-Ok.at.root c.nodes_of.result at.root c.nodes_of.ensures; kept = c.clear.ensures.kept b.holds }) (subst W (sym c.in-Ok.is) tt)
 
 pub returns-in_default-clause-committed : goal.returns-in_default-clause-committed
 returns-in_default-clause-committed g c = λ row kept h.

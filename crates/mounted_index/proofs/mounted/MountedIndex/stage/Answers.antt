@@ -1,6 +1,6 @@
 use Rattle.std.proofs.Common.{rules, ◌≡◌, ap, sym, ◌∙◌, subst}
 use Rattle.ubifs_base.specs.declared.geometry.Geometry.{Geometry}
-use Rattle.index_cache.specs.Paged.{fanout_of, tree_of}
+use Rattle.index_cache.specs.Paged.{fanout_of, keyed_tree_of}
 use Rattle.index_commit.specs.Standing.{AreOutside}
 use Rattle.index_media.specs.KeyedRow.{KeyedRow}
 use Rattle.node_table.specs.Changing.{changed_by}
@@ -55,13 +55,13 @@ returns-in_ok-staged-in-InMemory-clause-staged g c = λ row h.
       stands = λ kept stands.
           let S : KeyedRow → Type 0 = λ r. StandsIn a kept r in
           let M : KeyedRow → Type 0 = λ r. StandsIn b kept r in
-          let fit : IsFitRow (fanout_of index) (tree_of index) = record { sound = sound.fits; one = one_at index.table.nodes.items index.root } in
-          let after = all_stand c.changes_keep_what_stands.ensures.changed laws a kept (fanout_of index) changes (tree_of index) sound.least fit (subst S own.0 stands) in
-          subst M (sym (made_there f loaded.geometry.fanout row changes index same own)) (stands_kept a b kept (changed_by (fanout_of index) changes (tree_of index)) c.load.ensures.reads.keeps c.load.ensures.reads.shape after);
+          let fit : IsFitRow (fanout_of index) (keyed_tree_of index) = record { sound = sound.fits; one = one_at index.table.nodes.items index.root } in
+          let after = all_stand c.changes_keep_what_stands.ensures.changed laws a kept (fanout_of index) changes (keyed_tree_of index) sound.least fit (subst S own.0 stands) in
+          subst M (sym (made_there f loaded.geometry.fanout row changes index same own)) (stands_kept a b kept (changed_by (fanout_of index) changes (keyed_tree_of index)) c.load.ensures.reads.keeps c.load.ensures.reads.shape after);
       outside = λ contents others out.
           let O : KeyedRow → Type 0 = λ r. AreOutside contents others r in
-          let fit : IsFitRow (fanout_of index) (tree_of index) = record { sound = sound.fits; one = one_at index.table.nodes.items index.root } in
-          subst O (sym (made_there f loaded.geometry.fanout row changes index same own)) (all_outside c.changes_keep_what_stands.ensures.changed laws (fanout_of index) changes contents others (tree_of index) sound.least fit (subst O own.0 out));
+          let fit : IsFitRow (fanout_of index) (keyed_tree_of index) = record { sound = sound.fits; one = one_at index.table.nodes.items index.root } in
+          subst O (sym (made_there f loaded.geometry.fanout row changes index same own)) (all_outside c.changes_keep_what_stands.ensures.changed laws (fanout_of index) changes contents others (keyed_tree_of index) sound.least fit (subst O own.0 out));
     }
 
 pub returns-in_err-load-clause-running : goal.returns-in_err-load-clause-running

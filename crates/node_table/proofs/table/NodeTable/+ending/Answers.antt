@@ -2,7 +2,7 @@ use Rattle.std.proofs.Common.{None, List, drop, take, ap, sym, subst, arith, ◌
 use Rattle.index_tree.specs.Shape.{contents}
 use Rattle.index_media.specs.KeyedKeys.{AreKeysBounded}
 use Rattle.index_media.specs.KeyedRow.{KeyedRow, bare}
-use Rattle.table_nodes.specs.NodeView.{views, row_of}
+use Rattle.table_nodes.specs.NodeView.{node_views, row_of}
 use Rattle.table_nodes.specs.declared.link.Link.{Link}
 use Rattle.node_table.proofs.Ending.{last_up_to, last_second, last_first, last_outside, last_inside, none_behind, leaves_split, front_small, front_bounded}
 use Rattle.node_table.proofs.Rows.{row_size, passed}
@@ -10,7 +10,7 @@ use Rattle.node_table.proofs.table.NodeTable.+ending.Goals as goal
 
 pub last_among-returns-then-not-begin_within : goal.last_among-returns-then-not-begin_within
 last_among-returns-then-not-begin_within t c =
-    let seen = views c.args.self.now.nodes.items in
+    let seen = node_views c.args.self.now.nodes.items in
     let is = c.in-Some.ensures.cases.0 in
     let link = c.in-Some.link.now in
     let rest = c.in-Some.rest.now in
@@ -19,18 +19,18 @@ last_among-returns-then-not-begin_within t c =
 
 pub last_among-returns-in-Some-last_among : goal.last_among-returns-in-Some-last_among
 last_among-returns-in-Some-last_among t c =
-    let seen = views c.args.self.now.nodes.items in
+    let seen = node_views c.args.self.now.nodes.items in
     last_outside seen c.args.at c.in-Some.link.now c.in-Some.rest.now c.args.links.now c.in-Some-last_among.leaf c.in-Some.ensures.cases.0 c.in-Some-last_among.ensures
 
 pub last_among-returns-in-None-last_among : goal.last_among-returns-in-None-last_among
 last_among-returns-in-None-last_among t c =
-    let seen = views c.args.self.now.nodes.items in
+    let seen = node_views c.args.self.now.nodes.items in
     c.last_link-in-None-last_among.ensures
     ∙ last_inside seen c.args.at c.in-Some.link.now c.in-Some.rest.now c.args.links.now c.in-Some.ensures.cases.0 c.in-None-last_among.ensures
 
 pub last_below-last_among-requires : goal.last_below-last_among-requires
 last_below-last_among-requires t c =
-    let seen = views c.args.self.now.nodes.items in
+    let seen = node_views c.args.self.now.nodes.items in
     let links = c.in-Some.links.now in
     let i = c.links_passed.result in
     let p = passed seen c.args.at 0 links i c.in-Some.ensures.bounded c.links_passed.ensures.begins in
@@ -41,7 +41,7 @@ last_below-last_among-requires t c =
 
 pub last_below-last_among-requires-in-None-last_among : goal.last_below-last_among-requires-in-None-last_among
 last_below-last_among-requires-in-None-last_among t c =
-    let seen = views c.args.self.now.nodes.items in
+    let seen = node_views c.args.self.now.nodes.items in
     let links = c.in-Some.links.now in
     let i = c.links_passed.result in
     let small = front_small seen i links in
@@ -52,7 +52,7 @@ last_below-last_among-requires-in-None-last_among t c =
 
 pub last_below-returns-in-Some-last_among : goal.last_below-returns-in-Some-last_among
 last_below-returns-in-Some-last_among t c =
-    let seen = views c.args.self.now.nodes.items in
+    let seen = node_views c.args.self.now.nodes.items in
     let at = c.args.at in
     let links = c.in-Some.links.now in
     let i = c.links_passed.result in
@@ -64,7 +64,7 @@ last_below-returns-in-Some-last_among t c =
 
 pub last_below-returns-in-None-last_among : goal.last_below-returns-in-None-last_among
 last_below-returns-in-None-last_among t c =
-    let seen = views c.args.self.now.nodes.items in
+    let seen = node_views c.args.self.now.nodes.items in
     let at = c.args.at in
     let links = c.in-Some.links.now in
     let i = c.links_passed.result in

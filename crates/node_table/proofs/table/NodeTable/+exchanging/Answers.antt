@@ -5,8 +5,8 @@ use Rattle.index_tree.specs.Removal.{holds}
 use Rattle.index_tree.specs.Shape.{contents, done}
 use Rattle.index_media.specs.InsertionSound.{fit_node}
 use Rattle.index_media.specs.KeyedRow.{KeyedRow, no_more, bare}
-use Rattle.node_table.specs.Exchange.{exchanged, links_to}
-use Rattle.table_nodes.specs.NodeView.{views, row_of}
+use Rattle.node_table.specs.Exchange.{exchanged_row, links_to}
+use Rattle.table_nodes.specs.NodeView.{node_views, row_of}
 use Rattle.table_nodes.specs.Sound.{IsSoundView}
 use Rattle.table_nodes.specs.Links.{row_before, AreLinksIn}
 use Rattle.node_table.specs.Walk.{inside}
@@ -21,7 +21,7 @@ use Rattle.node_table.proofs.table.NodeTable.+exchanging.Goals as goal
 pub exchange_among-exchange_among-requires : goal.exchange_among-exchange_among-requires
 exchange_among-exchange_among-requires t c =
     let old = c.args.self.now.nodes.items in
-    let seen = views old in
+    let seen = node_views old in
     let f = c.args.self.now.fanout in
     let is = c.in-Some.ensures.cases.0 in
     let link = c.in-Some.link.now in
@@ -45,7 +45,7 @@ exchange_among-exchange_among-requires t c =
 
 pub exchange_among-returns-then-begin_below-clause-found : goal.exchange_among-returns-then-begin_below-clause-found
 exchange_among-returns-then-begin_below-clause-found t c =
-    let seen = views c.args.self.now.nodes.items in
+    let seen = node_views c.args.self.now.nodes.items in
     let gone = c.args.gone.now in
     let is = c.in-Some.ensures.cases.0 in
     let link = c.in-Some.link.now in
@@ -57,21 +57,21 @@ exchange_among-returns-then-begin_below-clause-found t c =
 
 pub exchange_among-returns-then-begin_below-clause-made : goal.exchange_among-returns-then-begin_below-clause-made
 exchange_among-returns-then-begin_below-clause-made t c =
-    let seen = views c.args.self.now.nodes.items in
+    let seen = node_views c.args.self.now.nodes.items in
     let gone = c.args.gone.now in
     let is = c.in-Some.ensures.cases.0 in
     let link = c.in-Some.link.now in
     let rest = c.in-Some.rest.now in
     let above = c.begin_below.ensures.positive c.if-begin_below.true in
     let out = lower_inside seen (c.rank.result - 1) gone link rest c.args.links.now is (omega (arith, above, c.rank.ensures)) c.requires.bounded (c.begin_below.ensures.begins c.if-begin_below.true) in
-    let Q : KeyedRow → Type 0 = λ r. OnOk c.exchange_among.result (row_before (views c.exchange_among.new.self.nodes.items) c.exchange_among.new.made.items no_more ≡ r) in
-    subst Q (ap (λ v. row_before seen v (exchanged gone c.args.come (row_of seen rest))) c.in_ok-push-in-Some.ensures.items
+    let Q : KeyedRow → Type 0 = λ r. OnOk c.exchange_among.result (row_before (node_views c.exchange_among.new.self.nodes.items) c.exchange_among.new.made.items no_more ≡ r) in
+    subst Q (ap (λ v. row_before seen v (exchanged_row gone c.args.come (row_of seen rest))) c.in_ok-push-in-Some.ensures.items
     ∙ among_out seen gone c.args.come link rest c.args.links.now c.args.made.now.items is out)
     c.exchange_among.ensures.made
 
 pub exchange_among-returns-then-same_leaf-clause-made : goal.exchange_among-returns-then-same_leaf-clause-made
 exchange_among-returns-then-same_leaf-clause-made t c =
-    let seen = views c.args.self.now.nodes.items in
+    let seen = node_views c.args.self.now.nodes.items in
     let rest = c.in-Some.rest.now in
     let is = c.in-Some.ensures.cases.0 ∙ ap (λ (l : Link). l ∷ rest) c.in-ToLeaf.is in
     let items = c.in_ok-extend_from_slice-in-ToLeaf.ensures.items ∙ ap (λ (v : List Link). v ++ rest) c.in_ok-push_leaf-in-ToLeaf.ensures in
@@ -93,7 +93,7 @@ exchange_among-returns-then-same_leaf-clause-there t c =
 pub exchange_among-exchange_among-requires-in-ToLeaf : goal.exchange_among-exchange_among-requires-in-ToLeaf
 exchange_among-exchange_among-requires-in-ToLeaf t c =
     let old = c.args.self.now.nodes.items in
-    let seen = views old in
+    let seen = node_views old in
     let f = c.args.self.now.fanout in
     let is = c.in-Some.ensures.cases.0 in
     let link = c.in-Some.link.now in
@@ -118,7 +118,7 @@ exchange_among-exchange_among-requires-in-ToLeaf t c =
 pub exchange_among-exchange_below-requires : goal.exchange_among-exchange_below-requires
 exchange_among-exchange_below-requires t c =
     let old = c.args.self.now.nodes.items in
-    let seen = views old in
+    let seen = node_views old in
     let rest = c.in-Some.rest.now in
     let link = ToNode c.in-ToNode.key c.in-ToNode.number in
     let is = c.in-Some.ensures.cases.0 ∙ ap (λ (l : Link). l ∷ rest) c.in-ToNode.is in
@@ -130,7 +130,7 @@ exchange_among-exchange_below-requires t c =
 
 pub exchange_among-returns-then-branch-clause-found : goal.exchange_among-returns-then-branch-clause-found
 exchange_among-returns-then-branch-clause-found t c =
-    let seen = views c.args.self.now.nodes.items in
+    let seen = node_views c.args.self.now.nodes.items in
     let rest = c.in-Some.rest.now in
     let is = c.in-Some.ensures.cases.0 ∙ ap (λ (l : Link). l ∷ rest) c.in-ToNode.is in
     found_inside seen c.args.gone.now (ToNode c.in-ToNode.key c.in-ToNode.number) rest c.args.links.now is (sym c.in_ok-exchange_below-in-ToNode.ensures.found ∙ c.if-branch.true)
@@ -141,7 +141,7 @@ exchange_among-returns-then-branch-clause-made t c =
     let now = c.exchange_below.new.self.nodes.items in
     let rest = c.in-Some.rest.now in
     let is = c.in-Some.ensures.cases.0 ∙ ap (λ (l : Link). l ∷ rest) c.in-ToNode.is in
-    ap (λ v. row_before (views now) v no_more) c.in_ok-extend_from_slice-in-ToNode.ensures.items
+    ap (λ v. row_before (node_views now) v no_more) c.in_ok-extend_from_slice-in-ToNode.ensures.items
     ∙ among_below c.args.self.now.fanout old now c.args.gone.now c.args.come c.in-ToNode.key c.in-ToNode.number rest c.args.links.now c.args.made.now.items c.exchange_below.new.made.items
     is c.in_ok-exchange_below-in-ToNode.ensures.added c.requires.sound (sym c.in_ok-exchange_below-in-ToNode.ensures.found ∙ c.if-branch.true) c.in_ok-exchange_below-in-ToNode.ensures.made
 
@@ -159,7 +159,7 @@ pub exchange_among-exchange_among-requires-then-begin_within : goal.exchange_amo
 exchange_among-exchange_among-requires-then-begin_within t c =
     let old = c.args.self.now.nodes.items in
     let now = c.exchange_below.new.self.nodes.items in
-    let seen = views old in
+    let seen = node_views old in
     let f = c.args.self.now.fanout in
     let is = c.in-Some.ensures.cases.0 in
     let link = c.in-Some.link.now in
@@ -176,7 +176,7 @@ pub exchange_among-returns-then-begin_within-clause-found : goal.exchange_among-
 exchange_among-returns-then-begin_within-clause-found t c =
     let old = c.args.self.now.nodes.items in
     let now = c.exchange_below.new.self.nodes.items in
-    let seen = views old in
+    let seen = node_views old in
     let gone = c.args.gone.now in
     let rest = c.in-Some.rest.now in
     let fit = (rest_fits c.args.self.now.fanout seen c.in-Some.link.now rest c.args.links.now c.in-Some.ensures.cases.0 c.requires.sound).1 in
@@ -191,23 +191,23 @@ exchange_among-returns-then-begin_within-clause-made t c =
     let old = c.args.self.now.nodes.items in
     let now = c.exchange_below.new.self.nodes.items in
     let rest = c.in-Some.rest.now in
-    let fit = (rest_fits c.args.self.now.fanout (views old) c.in-Some.link.now rest c.args.links.now c.in-Some.ensures.cases.0 c.requires.sound).1 in
+    let fit = (rest_fits c.args.self.now.fanout (node_views old) c.in-Some.link.now rest c.args.links.now c.in-Some.ensures.cases.0 c.requires.sound).1 in
     let is = c.in-Some.ensures.cases.0 ∙ ap (λ (l : Link). l ∷ rest) c.in-ToNode.is in
-    let Q : KeyedRow → Type 0 = λ r. OnOk c.exchange_among-then-begin_within.result (row_before (views c.exchange_among-then-begin_within.new.self.nodes.items) c.exchange_among-then-begin_within.new.made.items no_more ≡ r) in
+    let Q : KeyedRow → Type 0 = λ r. OnOk c.exchange_among-then-begin_within.result (row_before (node_views c.exchange_among-then-begin_within.new.self.nodes.items) c.exchange_among-then-begin_within.new.made.items no_more ≡ r) in
     subst Q (among_on c.args.self.now.fanout old now c.args.gone.now c.args.come c.in-ToNode.key c.in-ToNode.number rest c.args.links.now c.args.made.now.items c.exchange_below.new.made.items
     is c.in_ok-exchange_below-in-ToNode.ensures.added c.requires.sound fit (sym c.in_ok-exchange_below-in-ToNode.ensures.found ∙ c.if-branch.false) c.in_ok-exchange_below-in-ToNode.ensures.made)
     c.exchange_among-then-begin_within.ensures.made
 
 pub exchange_among-returns-in_ok-push-in-ToLeaf-clause-made : goal.exchange_among-returns-in_ok-push-in-ToLeaf-clause-made
 exchange_among-returns-in_ok-push-in-ToLeaf-clause-made t c =
-    let seen = views c.args.self.now.nodes.items in
+    let seen = node_views c.args.self.now.nodes.items in
     let gone = c.args.gone.now in
     let link = c.in-Some.link.now in
     let rest = c.in-Some.rest.now in
     let O : Link → Type 0 = λ l. holds gone (contents (bare (inside seen l))) ≡ false in
     let out = subst O (sym c.in-ToLeaf.is) (other_leaf seen gone c.in-ToLeaf.leaf (sym c.same_leaf.ensures ∙ c.if-same_leaf.false)) in
-    let Q : KeyedRow → Type 0 = λ r. OnOk c.exchange_among-in-ToLeaf.result (row_before (views c.exchange_among-in-ToLeaf.new.self.nodes.items) c.exchange_among-in-ToLeaf.new.made.items no_more ≡ r) in
-    subst Q (ap (λ v. row_before seen v (exchanged gone c.args.come (row_of seen rest))) c.in_ok-push-in-ToLeaf.ensures.items
+    let Q : KeyedRow → Type 0 = λ r. OnOk c.exchange_among-in-ToLeaf.result (row_before (node_views c.exchange_among-in-ToLeaf.new.self.nodes.items) c.exchange_among-in-ToLeaf.new.made.items no_more ≡ r) in
+    subst Q (ap (λ v. row_before seen v (exchanged_row gone c.args.come (row_of seen rest))) c.in_ok-push-in-ToLeaf.ensures.items
     ∙ among_out seen gone c.args.come link rest c.args.links.now c.args.made.now.items c.in-Some.ensures.cases.0 out)
     c.exchange_among-in-ToLeaf.ensures.made
 
@@ -215,7 +215,7 @@ pub exchange_among-returns-in_ok-extend_from_slice-in-ToNode-2-clause-found : go
 exchange_among-returns-in_ok-extend_from_slice-in-ToNode-2-clause-found t c =
     let rest = c.in-Some.rest.now in
     let is = c.in-Some.ensures.cases.0 ∙ ap (λ (l : Link). l ∷ rest) c.in-ToNode.is in
-    sym (none_among (views c.args.self.now.nodes.items) c.rank-in-ToNode.result c.args.gone.now (ToNode c.in-ToNode.key c.in-ToNode.number) rest c.args.links.now is c.rank-in-ToNode.ensures c.requires.bounded
+    sym (none_among (node_views c.args.self.now.nodes.items) c.rank-in-ToNode.result c.args.gone.now (ToNode c.in-ToNode.key c.in-ToNode.number) rest c.args.links.now is c.rank-in-ToNode.ensures c.requires.bounded
     (sym c.begin_within.ensures ∙ c.if-begin_within.false) (sym c.in_ok-exchange_below-in-ToNode.ensures.found ∙ c.if-branch.false))
 
 pub exchange_among-returns-in_ok-extend_from_slice-in-ToNode-2-clause-made : goal.exchange_among-returns-in_ok-extend_from_slice-in-ToNode-2-clause-made
@@ -225,9 +225,9 @@ exchange_among-returns-in_ok-extend_from_slice-in-ToNode-2-clause-made t c =
     let rest = c.in-Some.rest.now in
     let is = c.in-Some.ensures.cases.0 ∙ ap (λ (l : Link). l ∷ rest) c.in-ToNode.is in
     let out = sym c.in_ok-exchange_below-in-ToNode.ensures.found ∙ c.if-branch.false in
-    let none = none_among (views old) c.rank-in-ToNode.result c.args.gone.now (ToNode c.in-ToNode.key c.in-ToNode.number) rest c.args.links.now is c.rank-in-ToNode.ensures c.requires.bounded
+    let none = none_among (node_views old) c.rank-in-ToNode.result c.args.gone.now (ToNode c.in-ToNode.key c.in-ToNode.number) rest c.args.links.now is c.rank-in-ToNode.ensures c.requires.bounded
     (sym c.begin_within.ensures ∙ c.if-begin_within.false) out in
-    ap (λ v. row_before (views now) v no_more) c.in_ok-extend_from_slice-in-ToNode-2.ensures.items
+    ap (λ v. row_before (node_views now) v no_more) c.in_ok-extend_from_slice-in-ToNode-2.ensures.items
     ∙ among_beside c.args.self.now.fanout old now c.args.gone.now c.args.come c.in-ToNode.key c.in-ToNode.number rest c.args.links.now c.args.made.now.items c.exchange_below.new.made.items
     is c.in_ok-exchange_below-in-ToNode.ensures.added c.requires.sound out none c.in_ok-exchange_below-in-ToNode.ensures.made
 
@@ -245,7 +245,7 @@ pub exchange_below-returns-then-is_empty-clause-made : goal.exchange_below-retur
 exchange_below-returns-then-is_empty-clause-made t c = λ rest.
     let old = c.args.self.now.nodes.items in
     let now = c.exchange_among.new.self.nodes.items in
-    let seen = views old in
+    let seen = node_views old in
     let gone = c.args.gone.now in
     let come = c.args.come in
     let links = c.exchange_among.new.made.items in
@@ -266,7 +266,7 @@ pub exchange_below-push_node-requires-clause-sound : goal.exchange_below-push_no
 exchange_below-push_node-requires-clause-sound t c =
     let old = c.args.self.now.nodes.items in
     let now = c.exchange_among.new.self.nodes.items in
-    let seen = views old in
+    let seen = node_views old in
     let gone = c.args.gone.now in
     let come = c.args.come in
     let links = c.exchange_among.new.made.items in
@@ -275,7 +275,7 @@ exchange_below-push_node-requires-clause-sound t c =
     let S : List Link → Type 0 = λ v. IsSoundView c.args.self.now.fanout (record { level = c.in_ok-node.node.level; place = None; children = row_of seen v }) in
     let sound = subst S (sym c.as_slice.ensures.value) c.in_ok-node.ensures.sound in
     let some : 0 < length links = grind (arith, nat_tests, c.is_empty.ensures, c.if-is_empty.false, c.exchange_among.new.made.ok.0) in
-    left_sound c.args.self.now.fanout c.exchange_among.new.self.fanout c.in_ok-node.node.level now (exchanged gone come row) links
+    left_sound c.args.self.now.fanout c.exchange_among.new.self.fanout c.in_ok-node.node.level now (exchanged_row gone come row) links
     (c.exchange_keeps_nodes.ensures.sound c.args.self.now.fanout c.in_ok-node.node.level gone come row c.requires.key sound) c.in_ok-exchange_among.ensures.fanout made some
 
 pub exchange_below-push_node-requires-clause-there : goal.exchange_below-push_node-requires-clause-there
@@ -286,7 +286,7 @@ pub exchange_below-returns-then-branch-clause-made : goal.exchange_below-returns
 exchange_below-returns-then-branch-clause-made t c = λ rest.
     let old = c.args.self.now.nodes.items in
     let now = c.exchange_among.new.self.nodes.items in
-    let seen = views old in
+    let seen = node_views old in
     let gone = c.args.gone.now in
     let come = c.args.come in
     let links = c.exchange_among.new.made.items in
@@ -302,10 +302,10 @@ pub exchange_below-returns-clause-made : goal.exchange_below-returns-clause-made
 exchange_below-returns-clause-made t c = λ rest.
     let old = c.args.self.now.nodes.items in
     let now = c.exchange_among.new.self.nodes.items in
-    let seen = views old in
+    let seen = node_views old in
     let row = row_of seen c.as_slice.result.now in
     let children = c.in_ok-node.ensures.children ∙ ap (row_of seen) (sym c.as_slice.ensures.value) in
-    ap (λ v. row_before (views now) v rest) c.in_ok-push.ensures.items
+    ap (λ v. row_before (node_views now) v rest) c.in_ok-push.ensures.items
     ∙ below_stays old now c.args.gone.now c.args.come c.args.top.key c.args.top.number row c.args.made.now.items rest c.requires.top c.in_ok-exchange_among.ensures.added c.requires.there
     children (sym c.in_ok-exchange_among.ensures.found ∙ c.if-branch.false)
 

@@ -5,7 +5,7 @@ use Rattle.index_tree.specs.declared.leaf.Leaf.{Leaf}
 use Rattle.index_tree.specs.Shape.{contents}
 use Rattle.index_media.specs.KeyedKeys.{AreKeysBounded}
 use Rattle.index_media.specs.KeyedRow.{KeyedRow, bare}
-use Rattle.table_nodes.specs.NodeView.{views, row_of, link_key}
+use Rattle.table_nodes.specs.NodeView.{node_views, row_of, link_key}
 use Rattle.table_nodes.specs.declared.link.Link.{Link}
 use Rattle.node_table.specs.Walk.{IsNthOf}
 use Rattle.node_table.proofs.Finding.{of_rank_passed, of_rank_lower, nth_inside, nth_outside, none_outside}
@@ -14,7 +14,7 @@ use Rattle.node_table.proofs.table.NodeTable.+finding.Goals as goal
 
 pub find_among-returns-then-begin_below : goal.find_among-returns-then-begin_below
 find_among-returns-then-begin_below t c =
-    let seen = views c.args.self.now.nodes.items in
+    let seen = node_views c.args.self.now.nodes.items in
     let at = c.args.at in
     let is = c.in-Some.ensures.cases.0 in
     let links = c.in-Some.link.now ∷ c.in-Some.rest.now in
@@ -27,7 +27,7 @@ find_among-returns-then-begin_below t c =
 
 pub find_among-returns-then-begin_within : goal.find_among-returns-then-begin_within
 find_among-returns-then-begin_within t c =
-    let seen = views c.args.self.now.nodes.items in
+    let seen = node_views c.args.self.now.nodes.items in
     let at = c.args.at in
     let Q : List Link → Type 0 = λ v. IsNthOf (of_rank at (contents (bare (row_of seen v)))) c.args.nth c.find_among-then-begin_within.result in
     subst Q (sym c.in-Some.ensures.cases.0)
@@ -35,14 +35,14 @@ find_among-returns-then-begin_within t c =
 
 pub find_among-returns-in-Ok : goal.find_among-returns-in-Ok
 find_among-returns-in-Ok t c =
-    let seen = views c.args.self.now.nodes.items in
+    let seen = node_views c.args.self.now.nodes.items in
     let at = c.args.at in
     ap (λ v. slice_get (of_rank at (contents (bare (row_of seen v)))) c.args.nth) c.in-Some.ensures.cases.0
     ∙ nth_inside seen at c.in-Some.link.now c.in-Some.rest.now c.args.nth c.in-Ok.leaf c.in-Ok.ensures
 
 pub find_among-returns-else-begin_within : goal.find_among-returns-else-begin_within
 find_among-returns-else-begin_within t c =
-    let seen = views c.args.self.now.nodes.items in
+    let seen = node_views c.args.self.now.nodes.items in
     let at = c.args.at in
     let is = c.in-Some.ensures.cases.0 in
     let link = c.in-Some.link.now in
@@ -55,7 +55,7 @@ find_among-returns-else-begin_within t c =
 
 pub find_below-find_among-requires : goal.find_below-find_among-requires
 find_below-find_among-requires t c =
-    let seen = views c.args.self.now.nodes.items in
+    let seen = node_views c.args.self.now.nodes.items in
     let links = c.in-Some.links.now in
     let i = c.lower_links_passed.result in
     let p = passed seen (c.args.at - 1) 0 links i c.in-Some.ensures.bounded c.lower_links_passed.ensures.begins in
@@ -71,7 +71,7 @@ find_below-returns-in-None t c =
 
 pub find_below-returns-in-Some : goal.find_below-returns-in-Some
 find_below-returns-in-Some t c =
-    let seen = views c.args.self.now.nodes.items in
+    let seen = node_views c.args.self.now.nodes.items in
     let at = c.args.at in
     let links = c.in-Some.links.now in
     let i = c.lower_links_passed.result in

@@ -3,7 +3,7 @@ use Rattle.index_tree.specs.Order.{first_after}
 use Rattle.index_tree.specs.Shape.{contents}
 use Rattle.index_media.specs.KeyedKeys.{AreKeysBounded}
 use Rattle.index_media.specs.KeyedRow.{KeyedRow, bare}
-use Rattle.table_nodes.specs.NodeView.{views, row_of}
+use Rattle.table_nodes.specs.NodeView.{node_views, row_of}
 use Rattle.table_nodes.specs.declared.link.Link.{Link}
 use Rattle.node_table.proofs.Following.{after_passed, after_inside, after_outside}
 use Rattle.node_table.proofs.Rows.{row_size, passed}
@@ -11,7 +11,7 @@ use Rattle.node_table.proofs.table.NodeTable.+following.Goals as goal
 
 pub after_among-returns-then-begin_within : goal.after_among-returns-then-begin_within
 after_among-returns-then-begin_within t c =
-    let seen = views c.args.self.now.nodes.items in
+    let seen = node_views c.args.self.now.nodes.items in
     let is = c.in-Some.ensures.cases.0 in
     let P : List Link → Type 0 = λ v. AreKeysBounded 0 None (row_of seen v) in
     let p = passed seen c.args.at 0 (c.in-Some.link.now ∷ c.in-Some.rest.now) 1 (subst P is c.requires.bounded) (λ some. sym c.begin_within.ensures ∙ c.if-begin_within.true) in
@@ -19,19 +19,19 @@ after_among-returns-then-begin_within t c =
 
 pub after_among-returns-in-Some-after_link : goal.after_among-returns-in-Some-after_link
 after_among-returns-in-Some-after_link t c =
-    let seen = views c.args.self.now.nodes.items in
+    let seen = node_views c.args.self.now.nodes.items in
     sym (ap (λ v. first_after c.args.at (contents (bare (row_of seen v)))) c.in-Some.ensures.cases.0
     ∙ after_inside seen c.args.at c.in-Some.link.now c.in-Some.rest.now c.in-Some-after_link.leaf (sym c.in-Some-after_link.ensures))
 
 pub after_among-returns-in-None-after_link : goal.after_among-returns-in-None-after_link
 after_among-returns-in-None-after_link t c =
-    let seen = views c.args.self.now.nodes.items in
+    let seen = node_views c.args.self.now.nodes.items in
     c.after_among-in-None-after_link.ensures ∙ sym (after_outside seen c.args.at c.in-Some.link.now c.in-Some.rest.now (sym c.in-None-after_link.ensures))
     ∙ ap (λ v. first_after c.args.at (contents (bare (row_of seen v)))) (sym c.in-Some.ensures.cases.0)
 
 pub after_below-after_among-requires : goal.after_below-after_among-requires
 after_below-after_among-requires t c =
-    let seen = views c.args.self.now.nodes.items in
+    let seen = node_views c.args.self.now.nodes.items in
     let links = c.in-Some.links.now in
     let i = c.links_passed.result in
     let p = passed seen c.args.at 0 links i c.in-Some.ensures.bounded c.links_passed.ensures.begins in
@@ -45,7 +45,7 @@ after_below-returns-in-None t c = sym (ap (λ (r : KeyedRow). first_after c.args
 
 pub after_below-returns-in-Some : goal.after_below-returns-in-Some
 after_below-returns-in-Some t c =
-    let seen = views c.args.self.now.nodes.items in
+    let seen = node_views c.args.self.now.nodes.items in
     let links = c.in-Some.links.now in
     let i = c.links_passed.result in
     let p = passed seen c.args.at 0 links i c.in-Some.ensures.bounded c.links_passed.ensures.begins in

@@ -4,7 +4,7 @@ use Rattle.index_tree.specs.Removal.{holds}
 use Rattle.index_tree.specs.Shape.{contents}
 use Rattle.index_media.specs.KeyedKeys.{AreKeysBounded}
 use Rattle.index_media.specs.KeyedRow.{KeyedRow, bare}
-use Rattle.table_nodes.specs.NodeView.{views, row_of, link_key}
+use Rattle.table_nodes.specs.NodeView.{node_views, row_of, link_key}
 use Rattle.table_nodes.specs.declared.link.Link.{Link}
 use Rattle.node_table.proofs.HoldsLaws.{holds_passed, holds_lower, holds_inside, holds_outside, holds_nowhere}
 use Rattle.node_table.proofs.Rows.{row_size, passed, link_bounds}
@@ -12,7 +12,7 @@ use Rattle.node_table.proofs.table.NodeTable.+holding.Goals as goal
 
 pub holds_among-returns-then-begin_below : goal.holds_among-returns-then-begin_below
 holds_among-returns-then-begin_below t c =
-    let seen = views c.args.self.now.nodes.items in
+    let seen = node_views c.args.self.now.nodes.items in
     let at = c.args.at in
     let is = c.in-Some.ensures.cases.0 in
     let links = c.in-Some.link.now ∷ c.in-Some.rest.now in
@@ -24,19 +24,19 @@ holds_among-returns-then-begin_below t c =
 
 pub holds_among-returns-then-holds_link : goal.holds_among-returns-then-holds_link
 holds_among-returns-then-holds_link t c =
-    let seen = views c.args.self.now.nodes.items in
+    let seen = node_views c.args.self.now.nodes.items in
     sym (ap (λ v. holds c.args.sought.now (contents (bare (row_of seen v)))) c.in-Some.ensures.cases.0
     ∙ holds_inside seen c.args.sought.now c.in-Some.link.now c.in-Some.rest.now (sym c.holds_link.ensures ∙ c.if-holds_link.true))
 
 pub holds_among-returns-then-begin_within : goal.holds_among-returns-then-begin_within
 holds_among-returns-then-begin_within t c =
-    let seen = views c.args.self.now.nodes.items in
+    let seen = node_views c.args.self.now.nodes.items in
     c.holds_among-then-begin_within.ensures ∙ sym (holds_outside seen c.args.sought.now c.in-Some.link.now c.in-Some.rest.now (sym c.holds_link.ensures ∙ c.if-holds_link.false))
     ∙ ap (λ v. holds c.args.sought.now (contents (bare (row_of seen v)))) (sym c.in-Some.ensures.cases.0)
 
 pub holds_among-returns-else-begin_within : goal.holds_among-returns-else-begin_within
 holds_among-returns-else-begin_within t c =
-    let seen = views c.args.self.now.nodes.items in
+    let seen = node_views c.args.self.now.nodes.items in
     let is = c.in-Some.ensures.cases.0 in
     let link = c.in-Some.link.now in
     let rest = c.in-Some.rest.now in
@@ -47,7 +47,7 @@ holds_among-returns-else-begin_within t c =
 
 pub holds_below-holds_among-requires : goal.holds_below-holds_among-requires
 holds_below-holds_among-requires t c =
-    let seen = views c.args.self.now.nodes.items in
+    let seen = node_views c.args.self.now.nodes.items in
     let links = c.in-Some.links.now in
     let i = c.lower_links_passed.result in
     let p = passed seen (c.rank-at.result - 1) 0 links i c.in-Some.ensures.bounded c.lower_links_passed.ensures.begins in
@@ -61,7 +61,7 @@ holds_below-returns-in-None t c = sym (ap (λ (r : KeyedRow). holds c.args.sough
 
 pub holds_below-returns-in-Some : goal.holds_below-returns-in-Some
 holds_below-returns-in-Some t c =
-    let seen = views c.args.self.now.nodes.items in
+    let seen = node_views c.args.self.now.nodes.items in
     let at = c.rank-at.result in
     let links = c.in-Some.links.now in
     let i = c.lower_links_passed.result in

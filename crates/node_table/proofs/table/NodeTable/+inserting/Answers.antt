@@ -2,7 +2,7 @@ use Rattle.std.proofs.Common.{List, ◌≡◌, ◌∷◌, ◌++◌, [], ap, sym,
 use Rattle.std.specs.Prelude.{OnOk, slice_get}
 use Rattle.index_media.specs.Insertion.{inserted_by_keys}
 use Rattle.index_media.specs.KeyedRow.{KeyedRow, no_more}
-use Rattle.table_nodes.specs.NodeView.{views, row_of, children_in}
+use Rattle.table_nodes.specs.NodeView.{node_views, row_of, children_in}
 use Rattle.table_nodes.specs.Links.{row_before, AreLinksIn}
 use Rattle.node_table.specs.Staging.{insertion_passes}
 use Rattle.table_nodes.specs.declared.link.Link.{Link}
@@ -15,7 +15,7 @@ use Rattle.node_table.proofs.table.NodeTable.+inserting.Goals as goal
 pub insert_among-insert_among-requires : goal.insert_among-insert_among-requires
 insert_among-insert_among-requires t c =
     let old = c.args.self.now.nodes.items in
-    let seen = views old in
+    let seen = node_views old in
     let f = c.args.self.now.fanout in
     let is = c.in-Some.ensures.cases.0 in
     let link = c.in-Some.link.now in
@@ -36,18 +36,18 @@ insert_among-insert_among-requires t c =
 
 pub insert_among-returns-then-goes_on-clause-made : goal.insert_among-returns-then-goes_on-clause-made
 insert_among-returns-then-goes_on-clause-made t c =
-    let seen = views c.args.self.now.nodes.items in
+    let seen = node_views c.args.self.now.nodes.items in
     let f = c.args.self.now.fanout in
     let link = c.in-Some.link.now in
     let rest = c.in-Some.rest.now in
-    let Q : KeyedRow → Type 0 = λ r. OnOk c.insert_among.result (row_before (views c.insert_among.new.self.nodes.items) c.insert_among.new.made.items no_more ≡ r) in
+    let Q : KeyedRow → Type 0 = λ r. OnOk c.insert_among.result (row_before (node_views c.insert_among.new.self.nodes.items) c.insert_among.new.made.items no_more ≡ r) in
     subst Q (ap (λ v. row_before seen v (inserted_by_keys f c.args.leaf (row_of seen rest))) c.in_ok-push-in-Some.ensures.items
     ∙ among_passed seen f c.args.leaf link rest c.args.links.now c.args.made.now.items c.in-Some.ensures.cases.0 (sym c.goes_on.ensures ∙ c.if-goes_on.true))
     c.insert_among.ensures.made
 
 pub insert_among-returns-in_ok-push-in-None-clause-made : goal.insert_among-returns-in_ok-push-in-None-clause-made
 insert_among-returns-in_ok-push-in-None-clause-made t c =
-    let seen = views c.args.self.now.nodes.items in
+    let seen = node_views c.args.self.now.nodes.items in
     ap (λ v. row_before seen v no_more) c.in_ok-push-in-None.ensures.items
     ∙ among_none seen c.args.self.now.fanout c.args.leaf c.args.links.now c.args.made.now.items c.in-None.ensures.cases
 
@@ -59,7 +59,7 @@ insert_among-returns-in_ok-push-in-None-clause-there t c =
 
 pub insert_among-returns-in_ok-extend_from_slice-in-ToLeaf-clause-made : goal.insert_among-returns-in_ok-extend_from_slice-in-ToLeaf-clause-made
 insert_among-returns-in_ok-extend_from_slice-in-ToLeaf-clause-made t c =
-    let seen = views c.args.self.now.nodes.items in
+    let seen = node_views c.args.self.now.nodes.items in
     let items = c.in_ok-extend_from_slice-in-ToLeaf.ensures.items ∙ ap (λ (v : List Link). v ++ c.args.links.now) c.in_ok-push-in-ToLeaf.ensures.items in
     ap (λ v. row_before seen v no_more) items
     ∙ among_leaf seen c.args.self.now.fanout c.args.leaf c.in-ToLeaf.field-0 c.in-Some.rest.now c.args.links.now c.args.made.now.items
@@ -80,7 +80,7 @@ pub insert_among-returns-in_ok-extend_from_slice-in-ToNode-clause-made : goal.in
 insert_among-returns-in_ok-extend_from_slice-in-ToNode-clause-made t c =
     let rest = c.in-Some.rest.now in
     let now = c.insert_below.new.self.nodes.items in
-    ap (λ v. row_before (views now) v no_more) c.in_ok-extend_from_slice-in-ToNode.ensures.items
+    ap (λ v. row_before (node_views now) v no_more) c.in_ok-extend_from_slice-in-ToNode.ensures.items
     ∙ among_node c.args.self.now.fanout c.args.self.now.nodes.items now c.args.leaf c.in-ToNode.key c.in-ToNode.number rest c.args.links.now c.args.made.now.items c.insert_below.new.made.items
     (c.in-Some.ensures.cases.0 ∙ ap (λ (l : Link). l ∷ rest) c.in-ToNode.is) c.in_ok-insert_below-in-ToNode.ensures.added c.requires.sound
     (ap (λ l. insertion_passes c.args.leaf l rest) (sym c.in-ToNode.is) ∙ sym c.goes_on.ensures ∙ c.if-goes_on.false) c.in_ok-insert_below-in-ToNode.ensures.made
@@ -100,12 +100,12 @@ insert_below-push_parted-requires-clause-grown t c =
     let old = c.args.self.now.nodes.items in
     let now = c.insert_among.new.self.nodes.items in
     let f = c.args.self.now.fanout in
-    let seen = views old in
+    let seen = node_views old in
     let node = c.in_ok-node.node in
     let row = row_of seen node.links.items in
     let given = ap (λ v. inserted_by_keys f c.args.leaf (row_of seen v)) c.as_slice.ensures.value in
     let made = made_row old now c.new-links.result.items c.insert_among.new.made.items _ c.new-links.ensures.items c.in_ok-insert_among.ensures.made ∙ given in
-    let P : List Link → Type 0 = λ v. row_of (views now) v ≡ inserted_by_keys f c.args.leaf row in
+    let P : List Link → Type 0 = λ v. row_of (node_views now) v ≡ inserted_by_keys f c.args.leaf row in
     below_grown f c.insert_among.new.self.fanout node.level c.args.leaf row _ c.args.self.now.least c.in_ok-insert_among.ensures.fanout c.requires.key c.in_ok-node.ensures.sound
     (subst P (sym c.as_slice-2.ensures.value) made)
 
@@ -118,13 +118,13 @@ insert_below-returns-clause-made t c = λ rest.
     let old = c.args.self.now.nodes.items in
     let now = c.insert_among.new.self.nodes.items in
     let f = c.args.self.now.fanout in
-    let seen = views old in
+    let seen = node_views old in
     let node = c.in_ok-node.node in
     let row = row_of seen node.links.items in
     let given = ap (λ v. inserted_by_keys f c.args.leaf (row_of seen v)) c.as_slice.ensures.value in
     let made = made_row old now c.new-links.result.items c.insert_among.new.made.items _ c.new-links.ensures.items c.in_ok-insert_among.ensures.made ∙ given in
-    let P : List Link → Type 0 = λ v. row_of (views now) v ≡ inserted_by_keys f c.args.leaf row in
-    let Q : KeyedRow → Type 0 = λ r. OnOk c.push_parted.result (row_before (views c.push_parted.new.self.nodes.items) c.push_parted.new.made.items rest ≡ r) in
+    let P : List Link → Type 0 = λ v. row_of (node_views now) v ≡ inserted_by_keys f c.args.leaf row in
+    let Q : KeyedRow → Type 0 = λ r. OnOk c.push_parted.result (row_before (node_views c.push_parted.new.self.nodes.items) c.push_parted.new.made.items rest ≡ r) in
     subst Q (below_made f c.insert_among.new.self.fanout old now c.args.leaf c.args.top.key c.lower_key.result c.args.made.now.items c.as_slice-2.result.now row (children_in (slice_get seen c.args.top.number)) rest
     c.in_ok-insert_among.ensures.fanout c.in_ok-insert_among.ensures.added c.requires.there c.lower_key.ensures (subst P (sym c.as_slice-2.ensures.value) made) c.in_ok-node.ensures.children)
     (c.push_parted.ensures.made rest)

@@ -7,7 +7,7 @@ use Rattle.index_tree.specs.declared.leaf.Leaf.{Leaf}
 use Rattle.index_media.specs.InsertionSound.{fit_node}
 use Rattle.index_media.specs.KeyedRange.{pruned_by_keys}
 use Rattle.index_media.specs.KeyedRow.{KeyedRow, no_more, bare}
-use Rattle.table_nodes.specs.NodeView.{views, row_of}
+use Rattle.table_nodes.specs.NodeView.{node_views, row_of}
 use Rattle.table_nodes.specs.Sound.{IsSoundView}
 use Rattle.table_nodes.specs.Links.{row_before, AreLinksIn}
 use Rattle.node_table.specs.Walk.{inside}
@@ -23,7 +23,7 @@ use Rattle.node_table.proofs.table.NodeTable.+pruning.Goals as goal
 pub prune_among-prune_among-requires : goal.prune_among-prune_among-requires
 prune_among-prune_among-requires t c =
     let old = c.args.self.now.nodes.items in
-    let seen = views old in
+    let seen = node_views old in
     let f = c.args.self.now.fanout in
     let is = c.in-Some.ensures.cases.0 in
     let link = c.in-Some.link.now in
@@ -44,7 +44,7 @@ prune_among-prune_among-requires t c =
 
 pub prune_among-returns-then-begin_below-clause-gone : goal.prune_among-returns-then-begin_below-clause-gone
 prune_among-returns-then-begin_below-clause-gone t c =
-    let seen = views c.args.self.now.nodes.items in
+    let seen = node_views c.args.self.now.nodes.items in
     let is = c.in-Some.ensures.cases.0 in
     let link = c.in-Some.link.now in
     let rest = c.in-Some.rest.now in
@@ -55,7 +55,7 @@ prune_among-returns-then-begin_below-clause-gone t c =
 
 pub prune_among-returns-then-begin_below-clause-made : goal.prune_among-returns-then-begin_below-clause-made
 prune_among-returns-then-begin_below-clause-made t c =
-    let seen = views c.args.self.now.nodes.items in
+    let seen = node_views c.args.self.now.nodes.items in
     let is = c.in-Some.ensures.cases.0 in
     let link = c.in-Some.link.now in
     let rest = c.in-Some.rest.now in
@@ -63,7 +63,7 @@ prune_among-returns-then-begin_below-clause-made t c =
     let to = c.args.to in
     let above = c.begin_below.ensures.positive c.if-begin_below.true in
     let low = link_lower seen from to link rest c.args.links.now is above c.requires.bounded (c.begin_below.ensures.begins c.if-begin_below.true) in
-    let Q : KeyedRow → Type 0 = λ r. OnOk c.prune_among.result (row_before (views c.prune_among.new.self.nodes.items) c.prune_among.new.made.items no_more ≡ r) in
+    let Q : KeyedRow → Type 0 = λ r. OnOk c.prune_among.result (row_before (node_views c.prune_among.new.self.nodes.items) c.prune_among.new.made.items no_more ≡ r) in
     subst Q (ap (λ v. row_before seen v (pruned_by_keys from to (row_of seen rest))) c.in_ok-push-in-Some.ensures.items
     ∙ among_passed c.pruning_keeps_nodes.ensures.same c.args.self.now.fanout from to seen link rest c.args.links.now c.args.made.now.items is c.requires.sound low)
     c.prune_among.ensures.made
@@ -71,7 +71,7 @@ prune_among-returns-then-begin_below-clause-made t c =
 pub prune_among-prune_link-requires : goal.prune_among-prune_link-requires
 prune_among-prune_link-requires t c =
     let old = c.args.self.now.nodes.items in
-    let seen = views old in
+    let seen = node_views old in
     let is = c.in-Some.ensures.cases.0 in
     let link = c.in-Some.link.now in
     let rest = c.in-Some.rest.now in
@@ -81,7 +81,7 @@ prune_among-prune_link-requires t c =
 
 pub prune_among-returns-then-not-begin_within-clause-gone : goal.prune_among-returns-then-not-begin_within-clause-gone
 prune_among-returns-then-not-begin_within-clause-gone t c =
-    let seen = views c.args.self.now.nodes.items in
+    let seen = node_views c.args.self.now.nodes.items in
     let is = c.in-Some.ensures.cases.0 in
     let link = c.in-Some.link.now in
     let rest = c.in-Some.rest.now in
@@ -99,10 +99,10 @@ prune_among-returns-then-not-begin_within-clause-made t c =
     let is = c.in-Some.ensures.cases.0 in
     let link = c.in-Some.link.now in
     let rest = c.in-Some.rest.now in
-    let none = links_higher (views old) from to link rest c.args.links.now is c.requires.bounded (sym c.begin_within.ensures ∙ c.if-not-begin_within.true) in
-    ap (λ v. row_before (views now) v no_more) c.in_ok-extend_from_slice-in-Some.ensures.items
+    let none = links_higher (node_views old) from to link rest c.args.links.now is c.requires.bounded (sym c.begin_within.ensures ∙ c.if-not-begin_within.true) in
+    ap (λ v. row_before (node_views now) v no_more) c.in_ok-extend_from_slice-in-Some.ensures.items
     ∙ among_last c.pruning_keeps_nodes.ensures.same f from to old now link rest c.args.links.now c.args.made.now.items c.prune_link.new.made.items
-    is c.in_ok-here-in-Some.ensures.added c.requires.sound (rest_fits f (views old) link rest c.args.links.now is c.requires.sound).1 none c.in_ok-here-in-Some.ensures.made
+    is c.in_ok-here-in-Some.ensures.added c.requires.sound (rest_fits f (node_views old) link rest c.args.links.now is c.requires.sound).1 none c.in_ok-here-in-Some.ensures.made
 
 pub prune_among-returns-then-not-begin_within-clause-there : goal.prune_among-returns-then-not-begin_within-clause-there
 prune_among-returns-then-not-begin_within-clause-there t c =
@@ -118,7 +118,7 @@ pub prune_among-prune_among-requires-in-Some : goal.prune_among-prune_among-requ
 prune_among-prune_among-requires-in-Some t c =
     let old = c.args.self.now.nodes.items in
     let now = c.prune_link.new.self.nodes.items in
-    let seen = views old in
+    let seen = node_views old in
     let f = c.args.self.now.fanout in
     let is = c.in-Some.ensures.cases.0 in
     let link = c.in-Some.link.now in
@@ -141,13 +141,13 @@ prune_among-returns-in_ok-behind-in-Some-clause-gone t c =
     let is = c.in-Some.ensures.cases.0 in
     let link = c.in-Some.link.now in
     let rest = c.in-Some.rest.now in
-    let fit = (rest_fits f (views old) link rest c.args.links.now is c.requires.sound).1 in
+    let fit = (rest_fits f (node_views old) link rest c.args.links.now is c.requires.sound).1 in
     let behind = c.in_ok-behind-in-Some.ensures.gone
     ∙ ap (λ (r : KeyedRow). min (length (within_range from to (contents (bare r)))) (2 ^ 64 - 1)) (row_kept f old now rest c.in_ok-here-in-Some.ensures.added fit) in
     c.saturating_add.ensures
-    ∙ both_gone (2 ^ 64 - 1) c.in_ok-here-in-Some.here c.in_ok-behind-in-Some.behind (within_range from to (contents (bare (inside (views old) link))))
-    (within_range from to (contents (bare (row_of (views old) rest)))) (within_range from to (contents (bare (row_of (views old) c.args.links.now))))
-    (range_apart (views old) from to link rest c.args.links.now is) c.in_ok-here-in-Some.ensures.gone behind
+    ∙ both_gone (2 ^ 64 - 1) c.in_ok-here-in-Some.here c.in_ok-behind-in-Some.behind (within_range from to (contents (bare (inside (node_views old) link))))
+    (within_range from to (contents (bare (row_of (node_views old) rest)))) (within_range from to (contents (bare (row_of (node_views old) c.args.links.now))))
+    (range_apart (node_views old) from to link rest c.args.links.now is) c.in_ok-here-in-Some.ensures.gone behind
 
 pub prune_among-returns-in_ok-behind-in-Some-clause-made : goal.prune_among-returns-in_ok-behind-in-Some-clause-made
 prune_among-returns-in_ok-behind-in-Some-clause-made t c =
@@ -159,7 +159,7 @@ prune_among-returns-in_ok-behind-in-Some-clause-made t c =
     let rest = c.in-Some.rest.now in
     c.in_ok-behind-in-Some.ensures.made
     ∙ among_more f c.args.from c.args.to old now link rest c.args.links.now c.args.made.now.items c.prune_link.new.made.items is c.in_ok-here-in-Some.ensures.added
-    (rest_fits f (views old) link rest c.args.links.now is c.requires.sound).1 c.in_ok-here-in-Some.ensures.made
+    (rest_fits f (node_views old) link rest c.args.links.now is c.requires.sound).1 c.in_ok-here-in-Some.ensures.made
 
 pub prune_below-returns-then-gone-eq0-clause-made : goal.prune_below-returns-then-gone-eq0-clause-made
 prune_below-returns-then-gone-eq0-clause-made t c = λ rest.
@@ -168,7 +168,7 @@ prune_below-returns-then-gone-eq0-clause-made t c = λ rest.
     let f = c.args.self.now.fanout in
     let from = c.args.from in
     let to = c.args.to in
-    let seen = views old in
+    let seen = node_views old in
     let row = row_of seen c.as_slice.result.now in
     let children = c.in_ok-node.ensures.children ∙ ap (row_of seen) (sym c.as_slice.ensures.value) in
     let S : List Link → Type 0 = λ v. IsSoundView f (record { level = c.in_ok-node.node.level; place = None; children = row_of seen v }) in
@@ -176,7 +176,7 @@ prune_below-returns-then-gone-eq0-clause-made t c = λ rest.
     let fit = fit_node f (bare row) done sound.0 in
     let zero : c.in_ok-gone.gone ≡ 0 = grind (arith, nat_tests, c.if-gone-eq0.true) in
     let none = none_gone (2 ^ 64 - 1) c.in_ok-gone.gone (within_range from to (contents (bare row))) (omega arith) c.in_ok-gone.ensures.gone zero in
-    ap (λ v. row_before (views now) v rest) c.in_ok-push.ensures.items
+    ap (λ v. row_before (node_views now) v rest) c.in_ok-push.ensures.items
     ∙ below_same c.pruning_keeps_nodes.ensures.same f from to old now c.args.top.key c.args.top.number row c.args.made.now.items rest c.requires.top c.in_ok-gone.ensures.added c.requires.there
     children fit.least fit.children none
 
@@ -193,7 +193,7 @@ pub prune_below-returns-then-is_empty-clause-made : goal.prune_below-returns-the
 prune_below-returns-then-is_empty-clause-made t c = λ rest.
     let old = c.args.self.now.nodes.items in
     let now = c.prune_among.new.self.nodes.items in
-    let seen = views old in
+    let seen = node_views old in
     let links = c.prune_among.new.made.items in
     let row = row_of seen c.as_slice.result.now in
     let children = c.in_ok-node.ensures.children ∙ ap (row_of seen) (sym c.as_slice.ensures.value) in
@@ -212,7 +212,7 @@ prune_below-push_node-requires-clause-sound t c =
     let f = c.args.self.now.fanout in
     let from = c.args.from in
     let to = c.args.to in
-    let seen = views old in
+    let seen = node_views old in
     let links = c.prune_among.new.made.items in
     let row = row_of seen c.as_slice.result.now in
     let made = made_row old now c.new-links.result.items links _ c.new-links.ensures.items c.in_ok-gone.ensures.made in
@@ -232,7 +232,7 @@ prune_below-returns-clause-made t c = λ rest.
     let now = c.prune_among.new.self.nodes.items in
     let from = c.args.from in
     let to = c.args.to in
-    let seen = views old in
+    let seen = node_views old in
     let links = c.prune_among.new.made.items in
     let row = row_of seen c.as_slice.result.now in
     let children = c.in_ok-node.ensures.children ∙ ap (row_of seen) (sym c.as_slice.ensures.value) in
@@ -245,7 +245,7 @@ prune_below-returns-clause-made t c = λ rest.
 
 pub prune_link-returns-in_ok-push-in-ToLeaf-clause-made : goal.prune_link-returns-in_ok-push-in-ToLeaf-clause-made
 prune_link-returns-in_ok-push-in-ToLeaf-clause-made t c = λ rest.
-    let seen = views c.args.self.now.nodes.items in
+    let seen = node_views c.args.self.now.nodes.items in
     ap (λ v. row_before seen v rest) c.in_ok-push-in-ToLeaf.ensures.items
     ∙ leaf_stays seen c.args.from c.args.to c.in-ToLeaf.leaf c.args.link.now c.args.made.now.items rest c.in-ToLeaf.is (sym c.is_in_range.ensures ∙ c.if-is_in_range.false)
 

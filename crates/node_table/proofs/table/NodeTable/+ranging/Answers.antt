@@ -5,7 +5,7 @@ use Rattle.index_tree.specs.Shape.{contents}
 use Rattle.index_tree.specs.declared.leaf.Leaf.{Leaf}
 use Rattle.index_media.specs.KeyedKeys.{AreKeysBounded}
 use Rattle.index_media.specs.KeyedRow.{KeyedRow, bare}
-use Rattle.table_nodes.specs.NodeView.{views, row_of}
+use Rattle.table_nodes.specs.NodeView.{node_views, row_of}
 use Rattle.table_nodes.specs.declared.link.Link.{Link}
 use Rattle.node_table.proofs.Pruned.{link_lower, links_higher, range_behind, range_inside, range_lower}
 use Rattle.node_table.proofs.Rows.{row_size, passed}
@@ -13,7 +13,7 @@ use Rattle.node_table.proofs.table.NodeTable.+ranging.Goals as goal
 
 pub push_range_among-returns-then-begin_below : goal.push_range_among-returns-then-begin_below
 push_range_among-returns-then-begin_below t c =
-    let seen = views c.args.self.now.nodes.items in
+    let seen = node_views c.args.self.now.nodes.items in
     let is = c.in-Some.ensures.cases.0 in
     let link = c.in-Some.link.now in
     let rest = c.in-Some.rest.now in
@@ -24,7 +24,7 @@ push_range_among-returns-then-begin_below t c =
 
 pub push_range_among-returns-else-begin_within : goal.push_range_among-returns-else-begin_within
 push_range_among-returns-else-begin_within t c =
-    let seen = views c.args.self.now.nodes.items in
+    let seen = node_views c.args.self.now.nodes.items in
     let is = c.in-Some.ensures.cases.0 in
     let link = c.in-Some.link.now in
     let rest = c.in-Some.rest.now in
@@ -34,7 +34,7 @@ push_range_among-returns-else-begin_within t c =
 
 pub push_range_below-push_range_among-requires : goal.push_range_below-push_range_among-requires
 push_range_below-push_range_among-requires t c =
-    let seen = views c.args.self.now.nodes.items in
+    let seen = node_views c.args.self.now.nodes.items in
     let links = c.in-Some.links.now in
     let i = c.lower_links_passed.result in
     let p = passed seen (c.args.from - 1) 0 links i c.in-Some.ensures.bounded c.lower_links_passed.ensures.begins in
@@ -45,7 +45,7 @@ push_range_below-push_range_among-requires t c =
 
 pub push_range_below-returns-in-Some : goal.push_range_below-returns-in-Some
 push_range_below-returns-in-Some t c =
-    let seen = views c.args.self.now.nodes.items in
+    let seen = node_views c.args.self.now.nodes.items in
     let from = c.args.from in
     let to = c.args.to in
     let links = c.in-Some.links.now in

@@ -4,7 +4,7 @@ use Rattle.std.proofs.lemmas.List.Elements.{filter-append}
 use Rattle.index_tree.specs.declared.leaf.Leaf.{Leaf}
 use Rattle.index_tree.specs.Shape.{contents}
 use Rattle.index_media.specs.KeyedRow.{KeyedRow, bare}
-use Rattle.table_nodes.specs.NodeView.{views, row_of}
+use Rattle.table_nodes.specs.NodeView.{node_views, row_of}
 use Rattle.node_table.specs.Walk.{inside}
 use Rattle.node_table.proofs.Rows.{row_size, link_apart}
 use Rattle.node_table.proofs.table.NodeTable.+scanning.Goals as goal
@@ -24,7 +24,7 @@ push_below-returns-in-Some t c =
 
 pub push_among-returns-in_ok-push_link-in-Some : goal.push_among-returns-in_ok-push_link-in-Some
 push_among-returns-in_ok-push_link-in-Some t c =
-    let seen = views c.args.self.now.nodes.items in
+    let seen = node_views c.args.self.now.nodes.items in
     let old = c.args.leaves.now.items in
     let own = filter (λ (x : Leaf). x.lnum == c.args.lnum) (contents (bare (inside seen c.in-Some.link.now))) in
     let behind = filter (λ (x : Leaf). x.lnum == c.args.lnum) (contents (bare (row_of seen c.in-Some.rest.now))) in

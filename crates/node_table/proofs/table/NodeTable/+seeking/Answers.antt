@@ -6,8 +6,8 @@ use Rattle.index_media.specs.Clean.{is_clean_row}
 use Rattle.index_media.specs.KeyedRow.{KeyedRow, bare}
 use Rattle.table_nodes.specs.BeyondLaws.{table_row}
 use Rattle.node_table.specs.Dirty.{dirty_lists, dirty_among}
-use Rattle.table_nodes.specs.NodeView.{views, view_of, row_of}
-use Rattle.node_table.specs.Pruning.{place_in}
+use Rattle.table_nodes.specs.NodeView.{node_views, node_view_of, row_of}
+use Rattle.node_table.specs.Pruning.{stretch_in}
 use Rattle.table_nodes.specs.Links.{AreLinksIn}
 use Rattle.table_nodes.specs.declared.link.Link.{Link}
 use Rattle.node_table.proofs.Cleaning.{placed_is_clean, placed_list, dirty_list, dirty_view, first_some, first_none}
@@ -36,13 +36,13 @@ first_dirty-returns-then-is_some-clause-none t c = λ h.
 pub first_dirty-first_dirty_among-requires : goal.first_dirty-first_dirty_among-requires
 first_dirty-first_dirty_among-requires t c =
     let s = c.args.self.now in
-    let seen = views s.nodes.items in
+    let seen = node_views s.nodes.items in
     let n = c.in-Some.node.now in
     let same = ap (λ v. row_size (row_of seen v)) c.as_slice.ensures.value in
     let whole = ap row_size c.in-Some.ensures.linked in
     let row = table_row seen s.nodes.items c.args.number n s.loaded c.in-Some.ensures.some in
     let F : KeyedRow → Type 0 = λ r. fits s.fanout (bare r) ≡ true in
-    let there = links_there s.fanout seen n.links.items (subst F row (children_fit s.fanout (view_of seen n) c.in-Some.ensures.sound)) in
+    let there = links_there s.fanout seen n.links.items (subst F row (children_fit s.fanout (node_view_of seen n) c.in-Some.ensures.sound)) in
     let P : List Link → Type 0 = λ v. AreLinksIn (length s.nodes.items) v in
     let Q : ℕ → Type 0 = λ k. AreLinksIn k n.links.items in
     (omega (arith, same, whole), subst P (sym c.as_slice.ensures.value) (subst Q (views_length s.nodes.items) there))
@@ -61,12 +61,12 @@ first_dirty-returns-in-None-first_dirty_among-clause-first t c =
 pub first_dirty-returns-in-None-first_dirty_among-clause-ready : goal.first_dirty-returns-in-None-first_dirty_among-clause-ready
 first_dirty-returns-in-None-first_dirty_among-clause-ready t c =
     let s = c.args.self.now in
-    let seen = views s.nodes.items in
+    let seen = node_views s.nodes.items in
     let n = c.in-Some.node.now in
     let dirty = sym c.is_some.ensures ∙ c.if-is_some.false in
     record {
       there = slice_get_within s.nodes.items c.args.number n c.in-Some.ensures.some;
-      dirty = ap place_in c.in-Some.ensures.seen ∙ dirty_view n.place dirty;
+      dirty = ap stretch_in c.in-Some.ensures.seen ∙ dirty_view n.place dirty;
       below = ap is_clean_row c.in-Some.ensures.linked ∙ ap (λ (v : List Link). is_clean_row (row_of seen v)) (sym c.as_slice.ensures.value) ∙ c.in-None-first_dirty_among.ensures.none;
     }
 

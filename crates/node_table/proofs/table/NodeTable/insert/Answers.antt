@@ -1,6 +1,6 @@
 use Rattle.std.proofs.Common.{None, Some, refl, ap, sym, ◌∙◌}
 use Rattle.index_media.specs.Insertion.{first_key}
-use Rattle.table_nodes.specs.NodeView.{views, row_of, tree_at}
+use Rattle.table_nodes.specs.NodeView.{node_views, row_of, tree_at}
 use Rattle.node_table.specs.Staging.{only_root}
 use Rattle.table_nodes.specs.declared.node.Root.{Root}
 use Rattle.table_nodes.specs.declared.node.TableNode.{TableNode}
@@ -10,7 +10,7 @@ use Rattle.node_table.proofs.table.NodeTable.insert.Goals as goal
 pub add-requires : goal.add-requires
 add-requires c = record {
   sound = row_sound c.args.self.now.fanout c.insert_row.new.self.fanout c.in_ok-level.level c.args.leaf (tree_at c.args.self.now.nodes.items c.args.root)
-      (row_of (views c.insert_row.new.self.nodes.items) c.in_ok-links.links.items) c.args.self.now.least c.in_ok-links.ensures.fanout c.requires.key c.in_ok-level.ensures c.in_ok-links.ensures.made;
+      (row_of (node_views c.insert_row.new.self.nodes.items) c.in_ok-links.links.items) c.args.self.now.least c.in_ok-links.ensures.fanout c.requires.key c.in_ok-level.ensures c.in_ok-links.ensures.made;
   clean = refl;
   loaded = refl;
 }
@@ -28,12 +28,12 @@ returns-in-Some-clause-root c =
     let links = c.in_ok-links.links.items in
     let only = ap only_root (sym c.as_slice.ensures.value) ∙ sym c.in-Some.ensures in
     root_sound f c.in_ok-level.level c.args.leaf row now c.in-Some.top c.args.self.now.least c.requires.key c.in_ok-level.ensures
-    (only_there f now links c.in-Some.top (row_fits f c.args.leaf row (row_of (views now) links) c.args.self.now.least c.in_ok-level.ensures.sound c.in_ok-links.ensures.made) only)
+    (only_there f now links c.in-Some.top (row_fits f c.args.leaf row (row_of (node_views now) links) c.args.self.now.least c.in_ok-level.ensures.sound c.in_ok-links.ensures.made) only)
     (only_made f now c.args.leaf row links c.in-Some.top c.in_ok-links.ensures.made only)
 
 pub returns-in_ok-number-in-None-clause-made : goal.returns-in_ok-number-in-None-clause-made
 returns-in_ok-number-in-None-clause-made c =
-    let seen = views c.insert_row.new.self.nodes.items in
+    let seen = node_views c.insert_row.new.self.nodes.items in
     let key = c.first_key-key.result in
     raised_made c.args.self.now.fanout seen c.args.leaf (tree_at c.args.self.now.nodes.items c.args.root) _ c.in_ok-links.links.items key c.in_ok-links.ensures.made
     (ap only_root (sym c.as_slice.ensures.value) ∙ sym c.in-None.ensures)
@@ -44,7 +44,7 @@ pub returns-in_ok-number-in-None-clause-root : goal.returns-in_ok-number-in-None
 returns-in_ok-number-in-None-clause-root c =
     let f = c.args.self.now.fanout in
     let now = c.insert_row.new.self.nodes.items in
-    let seen = views now in
+    let seen = node_views now in
     let row = tree_at c.args.self.now.nodes.items c.args.root in
     let key = c.first_key-key.result in
     let root : Root = record { key = key; number = c.in_ok-number-in-None.number } in

@@ -1,5 +1,5 @@
 use Rattle.std.proofs.Common.{None, ◌∙◌, ap, subst, sym, List, length}
-use Rattle.table_nodes.specs.NodeView.{views}
+use Rattle.table_nodes.specs.NodeView.{node_views}
 use Rattle.table_nodes.specs.Links.{row_before, AreLinksIn}
 use Rattle.table_nodes.specs.declared.link.Link.{Link}
 use Rattle.table_nodes.specs.declared.node.TableNode.{TableNode}
@@ -11,7 +11,7 @@ returns-clause-made c = λ rest.
     let old = c.args.self.now.nodes.items in
     let new = c.add.new.self.nodes.items in
     let node : TableNode = record { level = c.args.level; place = None; links = c.args.links; beyond = None } in
-    ap (λ v. row_before (views new) v rest) c.in_ok-push.ensures.items
+    ap (λ v. row_before (node_views new) v rest) c.in_ok-push.ensures.items
     ∙ node_pushed old new node c.in_ok-number.number c.args.key c.args.made.now.items rest c.in_ok-number.ensures.added c.in_ok-number.ensures.number c.requires.there
 
 pub returns-clause-there : goal.returns-clause-there

@@ -3,7 +3,7 @@ use Rattle.std.specs.Prelude.{OnOk}
 use Rattle.index_tree.specs.Shape.{left_half}
 use Rattle.index_media.specs.Insertion.{first_key}
 use Rattle.index_media.specs.KeyedRow.{KeyedRow, node_in}
-use Rattle.table_nodes.specs.NodeView.{views, row_of}
+use Rattle.table_nodes.specs.NodeView.{node_views, row_of}
 use Rattle.table_nodes.specs.Sound.{IsSoundView}
 use Rattle.table_nodes.specs.Links.{row_before}
 use Rattle.table_nodes.specs.declared.link.Link.{Link}
@@ -13,7 +13,7 @@ use Rattle.node_table.proofs.table.NodeTable.push_parted.Goals as goal
 
 pub push_node-requires-clause-sound : goal.push_node-requires-clause-sound
 push_node-requires-clause-sound c =
-    let seen = views c.args.self.now.nodes.items in
+    let seen = node_views c.args.self.now.nodes.items in
     let f = c.args.self.now.fanout in
     let row = row_of seen c.args.links.now in
     let number = links_counted seen c.args.links.now in
@@ -22,17 +22,17 @@ push_node-requires-clause-sound c =
 
 pub returns-then-links-self-clause-made : goal.returns-then-links-self-clause-made
 returns-then-links-self-clause-made c = λ rest.
-    let seen = views c.args.self.now.nodes.items in
+    let seen = node_views c.args.self.now.nodes.items in
     let f = c.args.self.now.fanout in
     let row = row_of seen c.args.links.now in
     let number = links_counted seen c.args.links.now in
-    let Q : KeyedRow → Type 0 = λ r. OnOk c.push_node.result (row_before (views c.push_node.new.self.nodes.items) c.push_node.new.made.items rest ≡ row_before seen c.args.made.now.items r) in
+    let Q : KeyedRow → Type 0 = λ r. OnOk c.push_node.result (row_before (node_views c.push_node.new.self.nodes.items) c.push_node.new.made.items rest ≡ row_before seen c.args.made.now.items r) in
     subst Q (ap (λ v. node_in c.args.key None (row_of seen v) rest) c.in_ok-whole.ensures ∙ sym (whole_stays f c.args.key row rest (omega (arith, number, c.if-links-self.true))))
     (c.push_node.ensures.made rest)
 
 pub push_node-requires-2-clause-sound : goal.push_node-requires-2-clause-sound
 push_node-requires-2-clause-sound c =
-    let seen = views c.args.self.now.nodes.items in
+    let seen = node_views c.args.self.now.nodes.items in
     let f = c.args.self.now.fanout in
     let row = row_of seen c.args.links.now in
     let number = links_counted seen c.args.links.now in
@@ -43,7 +43,7 @@ push_node-requires-2-clause-sound c =
 pub push_node-requires-3-clause-sound : goal.push_node-requires-3-clause-sound
 push_node-requires-3-clause-sound c =
     let old = c.args.self.now.nodes.items in
-    let seen = views old in
+    let seen = node_views old in
     let f = c.args.self.now.fanout in
     let row = row_of seen c.args.links.now in
     let number = links_counted seen c.args.links.now in
@@ -55,7 +55,7 @@ pub returns-clause-made : goal.returns-clause-made
 returns-clause-made c = λ rest.
     let old = c.args.self.now.nodes.items in
     let mid = c.push_node-2.new.self.nodes.items in
-    let seen = views old in
+    let seen = node_views old in
     let f = c.args.self.now.fanout in
     let key = c.args.key in
     let row = row_of seen c.args.links.now in
@@ -66,7 +66,7 @@ returns-clause-made c = λ rest.
     let back = ap (λ v. row_of seen v) c.in_ok-back.ensures ∙ right in
     let kept = back_row_kept f c.args.level old mid c.in_ok-back.back.items _ c.in_ok-push_node.ensures.added back h.back in
     let first = c.first_key.ensures seen ∙ ap (λ (r : KeyedRow). first_key key r) right in
-    let Q : KeyedRow → Type 0 = λ r. OnOk c.push_node-3.result (row_before (views c.push_node-3.new.self.nodes.items) c.push_node-3.new.made.items rest ≡ r) in
-    subst Q (c.in_ok-push_node.ensures.made (node_in c.first_key.result None (row_of (views mid) c.in_ok-back.back.items) rest)
-    ∙ parted_two seen c.args.made.now.items f c.args.level key row h (row_of seen c.in_ok-front.front.items) (row_of (views mid) c.in_ok-back.back.items) c.first_key.result rest front kept first)
+    let Q : KeyedRow → Type 0 = λ r. OnOk c.push_node-3.result (row_before (node_views c.push_node-3.new.self.nodes.items) c.push_node-3.new.made.items rest ≡ r) in
+    subst Q (c.in_ok-push_node.ensures.made (node_in c.first_key.result None (row_of (node_views mid) c.in_ok-back.back.items) rest)
+    ∙ parted_two seen c.args.made.now.items f c.args.level key row h (row_of seen c.in_ok-front.front.items) (row_of (node_views mid) c.in_ok-back.back.items) c.first_key.result rest front kept first)
     (c.push_node-3.ensures.made rest)

@@ -1,41 +1,44 @@
-use Rattle.std.proofs.Common.{List, ap, sym, ◌∙◌, subst}
+use Rattle.std.proofs.Common.{ℕ, List, ap, sym, ◌∙◌, subst}
 use Rattle.std.specs.Prelude.{slice_get}
 use Rattle.table_nodes.specs.Beyond.{are_loaded}
-use Rattle.node_table.specs.Clean.{are_clean_below}
-use Rattle.node_table.specs.Dirty.{dirty_below}
+use Rattle.table_nodes.specs.Clean.{are_clean_below}
+use Rattle.node_table.specs.Dirty.{dirty_below, dirty_lists}
 use Rattle.node_table.specs.Placing.{IsPlacedRow}
-use Rattle.table_nodes.specs.NodeView.{views, children_in, tree_at}
+use Rattle.table_nodes.specs.NodeView.{node_views, children_in, tree_at}
 use Rattle.table_nodes.specs.Sound.{AreSoundViews}
 use Rattle.node_table.specs.Staging.{IsSoundRoot}
-use Rattle.node_table.specs.Counting.{counts_of_all}
+use Rattle.node_table.specs.Bounds.{AreNoLonger}
 use Rattle.table_nodes.specs.declared.node.TableNode.{TableNode}
+use Rattle.node_table.proofs.Bounded.{few_without}
 use Rattle.node_table.proofs.PlacedTable.{table_placed}
 use Rattle.node_table.proofs.table.NodeTable.set_place.Goals as goal
 
 pub invariant_of-self-clause-sound : goal.invariant_of-self-clause-sound
 invariant_of-self-clause-sound c =
     let s = c.args.self.now in
-    subst (λ ns. AreSoundViews s.fanout (views ns)) (sym c.put_place.ensures) (table_placed s.fanout s.nodes.items c.args.number c.args.place s.sound s.clean s.loaded c.requires.ready).sound
+    subst (λ ns. AreSoundViews s.fanout (node_views ns)) (sym c.put_place.ensures) (table_placed s.fanout s.nodes.items c.args.number c.args.place s.sound s.clean s.loaded c.requires.ready).sound
 
 pub invariant_of-self-clause-clean : goal.invariant_of-self-clause-clean
 invariant_of-self-clause-clean c =
     let s = c.args.self.now in
-    ap (λ ns. are_clean_below (views ns)) c.put_place.ensures ∙ (table_placed s.fanout s.nodes.items c.args.number c.args.place s.sound s.clean s.loaded c.requires.ready).settled
+    ap (λ ns. are_clean_below (node_views ns)) c.put_place.ensures ∙ (table_placed s.fanout s.nodes.items c.args.number c.args.place s.sound s.clean s.loaded c.requires.ready).settled
 
 pub invariant_of-self-clause-loaded : goal.invariant_of-self-clause-loaded
 invariant_of-self-clause-loaded c =
     let s = c.args.self.now in
     ap are_loaded c.put_place.ensures ∙ (table_placed s.fanout s.nodes.items c.args.number c.args.place s.sound s.clean s.loaded c.requires.ready).loaded
 
-pub invariant_of-self-clause-counted : goal.invariant_of-self-clause-counted
-invariant_of-self-clause-counted c =
+pub invariant_of-self-clause-few : goal.invariant_of-self-clause-few
+invariant_of-self-clause-few c =
     let s = c.args.self.now in
-    s.counted ∙ sym (ap (λ ns. counts_of_all s.fanout (views ns)) c.put_place.ensures ∙ (table_placed s.fanout s.nodes.items c.args.number c.args.place s.sound s.clean s.loaded c.requires.ready).counted)
+    let P : List (List ℕ) → Type 0 = λ ds. AreNoLonger ds s.most_dirty.items in
+    let lists = ap dirty_lists c.put_place.ensures ∙ (table_placed s.fanout s.nodes.items c.args.number c.args.place s.sound s.clean s.loaded c.requires.ready).lists in
+    subst P (sym lists) (few_without c.args.number (dirty_lists s.nodes.items) s.most_dirty.items s.few)
 
 pub returns-clause-trees : goal.returns-clause-trees
 returns-clause-trees c = λ root.
     let s = c.args.self.now in
-    let P : List TableNode → Type 0 = λ ns. IsPlacedRow c.args.place (children_in (slice_get (views s.nodes.items) c.args.number)) (tree_at s.nodes.items root) (tree_at ns root) in
+    let P : List TableNode → Type 0 = λ ns. IsPlacedRow c.args.place (children_in (slice_get (node_views s.nodes.items) c.args.number)) (tree_at s.nodes.items root) (tree_at ns root) in
     subst P (sym c.put_place.ensures) ((table_placed s.fanout s.nodes.items c.args.number c.args.place s.sound s.clean s.loaded c.requires.ready).trees root)
 
 pub returns-clause-dirty : goal.returns-clause-dirty

@@ -1,26 +1,27 @@
 use Rattle.std.proofs.Common.{arith, ◌≡◌, ◌∙◌, length, ap}
 use Rattle.table_nodes.specs.Beyond.{are_loaded}
-use Rattle.node_table.specs.Clean.{are_clean_below}
-use Rattle.table_nodes.specs.NodeView.{views}
-use Rattle.node_table.proofs.Counted.{taken_both, taken_back}
+use Rattle.table_nodes.specs.Clean.{are_clean_below}
+use Rattle.table_nodes.specs.NodeView.{node_views}
+use Rattle.node_table.proofs.Bounded.{few_taken}
+use Rattle.node_table.proofs.Counted.{taken_back}
 use Rattle.node_table.proofs.table.NodeTable.stage.Goals as goal
 
-pub invariant_of-self-clause-counted : goal.invariant_of-self-clause-counted
-invariant_of-self-clause-counted c =
+pub invariant_of-self-clause-few : goal.invariant_of-self-clause-few
+invariant_of-self-clause-few c =
     let old = c.args.self.now.nodes.items in
     let now = c.stage_all.new.self in
     let added = c.stage_all.ensures.added in
     let same = c.len-number.ensures in
     let number : c.len-number.result ≡ length old = omega (arith, same) in
-    taken_both now.fanout old now.nodes.items c.truncate_both.new.nodes.items now.counts.items c.truncate_both.new.counts.items c.len-number.result added number
-    (c.truncate_both.ensures.nodes ∙ taken_back old now.nodes.items c.len-number.result added number) now.counted c.truncate_both.ensures.counts
+    few_taken old now.nodes.items c.truncate_both.new.nodes.items now.most_dirty.items c.truncate_both.new.most_dirty.items c.len-number.result added number
+    (c.truncate_both.ensures.nodes ∙ taken_back old now.nodes.items c.len-number.result added number) now.few c.truncate_both.ensures.most_dirty
 
 pub invariant_of-self-clause-clean : goal.invariant_of-self-clause-clean
 invariant_of-self-clause-clean c =
     let old = c.args.self.now.nodes.items in
     let same = c.len-number.ensures in
     let number : c.len-number.result ≡ length old = omega (arith, same) in
-    ap (λ v. are_clean_below (views v)) (c.truncate_both.ensures.nodes ∙ taken_back old c.stage_all.new.self.nodes.items c.len-number.result c.stage_all.ensures.added number)
+    ap (λ v. are_clean_below (node_views v)) (c.truncate_both.ensures.nodes ∙ taken_back old c.stage_all.new.self.nodes.items c.len-number.result c.stage_all.ensures.added number)
     ∙ c.args.self.now.clean
 
 pub invariant_of-self-clause-loaded : goal.invariant_of-self-clause-loaded

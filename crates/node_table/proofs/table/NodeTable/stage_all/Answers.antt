@@ -1,7 +1,7 @@
 use Rattle.std.proofs.Common.{ap, ◌∙◌}
 use Rattle.std.specs.Prelude.{get_or}
 use Rattle.ubifs_base.specs.declared.key.Key.TheVariants.{Ino}
-use Rattle.node_table.specs.Changing.{changed, leaves_after}
+use Rattle.node_table.specs.Changing.{changed_row, leaves_after_change}
 use Rattle.table_nodes.specs.NodeView.{tree_at, leaves_at}
 use Rattle.node_table.specs.declared.change.Change.{Change}
 use Rattle.node_table.specs.declared.change.Change.TheVariants.{Insert}
@@ -25,9 +25,9 @@ loop-change-preserved c =
     let before = c.loop-change.self.nodes.items in
     let change = get_or changes i none in
     record {
-      made = c.in_ok-made.ensures.made ∙ ap (λ n. changed n change (tree_at before c.loop-change.made)) c.loop-change.invariant.fanout
-          ∙ ap (changed f change) c.loop-change.invariant.made ∙ changed_more f changes i none (tree_at old c.args.root) c.loop-change-test.true;
-      leaves = c.in_ok-made.ensures.leaves ∙ ap (leaves_after change) c.loop-change.invariant.leaves ∙ leaves_more changes i none (leaves_at old c.args.root) c.loop-change-test.true;
+      made = c.in_ok-made.ensures.made ∙ ap (λ n. changed_row n change (tree_at before c.loop-change.made)) c.loop-change.invariant.fanout
+          ∙ ap (changed_row f change) c.loop-change.invariant.made ∙ changed_more f changes i none (tree_at old c.args.root) c.loop-change-test.true;
+      leaves = c.in_ok-made.ensures.leaves ∙ ap (leaves_after_change change) c.loop-change.invariant.leaves ∙ leaves_more changes i none (leaves_at old c.args.root) c.loop-change-test.true;
       root = c.in_ok-made.ensures.root;
       added = added_both old before c.stage_one.new.self.nodes.items c.loop-change.invariant.added c.in_ok-made.ensures.added;
       fanout = c.in_ok-made.ensures.fanout ∙ c.loop-change.invariant.fanout;
