@@ -17,6 +17,7 @@ use Rattle.script_text.specs.Script.{IsInRange, mounted_after}
 use Rattle.script_run.specs.Replies.{IsPartCalled}
 use Rattle.script_run.specs.Run.{HasStored, IsScriptAnswer, IsRefusedForRoom, IsScriptPart, IsReplied, ScriptRunning, script_line_of, plain}
 use Rattle.script_run.specs.Sessions.{IsBare}
+use Rattle.script_run.proofs.Covering.{covered_in}
 use Rattle.script_run.proofs.Leaving.{leaves_numbered}
 
 -- whether the volume is mounted then
@@ -84,5 +85,6 @@ replied_in geo a b m n i j w v caller op reply h = record {
   still = h.still;
   grown = record { weight = h.grown.weight; index = h.grown.index };
   few = h.few;
+  covered = covered_in geo b n b.now j v h.covered;
   admitted = h.admitted;
 }

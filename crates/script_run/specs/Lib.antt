@@ -1,5 +1,4 @@
 pub mod Admission
-pub mod Covered
 pub mod Heaviest
 pub mod Opening
 pub mod Phases

@@ -17,8 +17,7 @@ use Rattle.script_text.specs.declared.part.Part.TheVariants.{Line, Workers}
 use Rattle.script_text.specs.Reply.{reply_line}
 use Rattle.script_phase.specs.declared.lines.CallerLine.{CallerLine}
 use Rattle.script_phase.specs.Phases.{callers_in, is_memory, ops_by, traced_by}
-use Rattle.script_run.specs.Covered.{IsScriptCovered}
-use Rattle.script_run.specs.Run.{IsScriptPart, IsLineServed, ScriptRunning, clean_space, orphans_told}
+use Rattle.script_run.specs.Run.{IsScriptCovered, IsScriptPart, IsLineServed, ScriptRunning, clean_space, orphans_told}
 use Rattle.script_run.specs.Stored.{IsUnder}
 
 -- What a phase of so many callers opens on: the files as callers see them, the index with all dirty pages put, and the room that is left in the list of orphans. The volume may be written, and never failed.

@@ -18,8 +18,7 @@ use Rattle.script_run.specs.declared.whole.Run.{Run}
 use Rattle.script_run.specs.Opening.{mounted_space}
 use Rattle.script_run.specs.Reading.{IsReadRun, Reading, reading_on}
 use Rattle.script_run.specs.Phases.{ArePhases}
-use Rattle.script_run.specs.Covered.{IsScriptCovered}
-use Rattle.script_run.specs.Run.{IsScriptLeft, LeavesOnly, ScriptRunning, opening_on}
+use Rattle.script_run.specs.Run.{IsScriptCovered, IsScriptLeft, LeavesOnly, ScriptRunning, opening_on}
 
 -- The text is that of the script's phases and of the lines between them. The first begins on a volume with this tree, of which a cut leaves nothing else, and with an index of this weight. All that was promised behind the last line has room. The tree that is left is the one that is stored behind the last line, without what has no name.
 pub record IsPlayed (geo : RawGeometry) (tree : Tree) (weight : ℕ) (parts : List Part) (run : Run) : Type 0 where

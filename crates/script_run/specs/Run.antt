@@ -1,5 +1,5 @@
 -- What a script does: what each of its lines answers, the files that it leaves and what is stored of them, and the text that is printed.
-use Rattle.std.specs.Prelude.{◌≡◌, ◌⊎◌, ℕ, ◌+◌, ◌-◌, ◌*◌, ◌<◌, ◌≤◌, max, if◌then◌else◌, Bool, true, false, Some, Ok, Err, List, [], ◌∷◌, ◌++◌, length, codes}
+use Rattle.std.specs.Prelude.{◌≡◌, ◌⊎◌, ℕ, ◌+◌, ◌-◌, ◌*◌, ◌<◌, ◌≤◌, max, if◌then◌else◌, Bool, true, false, Option, Some, Ok, Err, List, [], ◌∷◌, ◌++◌, length, codes}
 use Rattle.ubifs_base.specs.declared.raw_geometry.RawGeometry.{RawGeometry}
 use Rattle.ubifs_base.specs.Areas.{main_lebs}
 use Rattle.small_areas.specs.Orphans.{orphan_limit}
@@ -10,6 +10,7 @@ use Rattle.fs_model.specs.declared.refusal.Refusal.{Refusal}
 use Rattle.fs_model.specs.declared.refusal.Refusal.TheVariants.{Enospc}
 use Rattle.fs_model.specs.declared.reply.Reply.{Reply}
 use Rattle.fs_model.specs.declared.reply.Reply.TheVariants.{Done, Refused}
+use Rattle.fs_model.specs.declared.space.Grant.{Grant}
 use Rattle.fs_model.specs.declared.space.Need.{Need}
 use Rattle.fs_model.specs.declared.space.Space.{Space}
 use Rattle.fs_model.specs.declared.trace.TraceLine.{TraceLine}
@@ -20,7 +21,10 @@ use Rattle.fs_model.specs.Legal.{pages_in}
 use Rattle.fs_model.specs.Orphan.{leaves_orphan, nameless, without_nameless}
 use Rattle.fs_model.specs.Outcome.{Outcome}
 use Rattle.fs_model.specs.Worked.{fresh}
+use Rattle.buffered_files.specs.declared.kept.Kept.{Kept}
 use Rattle.buffered_files.specs.Alike.{IsAlike}
+use Rattle.buffered_files.specs.Present.{IsKept, present}
+use Rattle.plain_backing.specs.Covering.{IsCovering}
 use Rattle.vfs_ops.specs.Kinds.{added_by, is_question}
 use Rattle.vfs_ops.specs.Operations.{nodes_asked}
 use Rattle.vfs_ops.specs.Replies.{is_refusal}
@@ -75,6 +79,20 @@ plain geo before caller op = allowed (orphan_limit geo.leb_size - orphans_told b
 -- what admission reckons with where no page is dirty: the bytes of the files, and the index
 abbrev pub clean_space : RawGeometry → ScriptRunning → Space
 clean_space geo here = record { used = tree_bytes here.files.tree; held = 0; credits = 0; empty = 0; index = here.index; weight = here.weight; main = main_lebs geo }
+
+-- The volume's numbers count the bytes that are stored, and a credit for each page that is dirty over them and for no other. All that was granted has room, with these credits.
+pub record IsScriptCovered (geo : RawGeometry) (here : ScriptRunning) : Type 0 where
+  pub kept : Kept
+  pub fits : IsKept here.stored kept
+  pub seen : present here.stored kept ≡ here.files
+  pub space : Space
+  pub main : space.main ≡ main_lebs geo
+  pub used : space.used ≡ tree_bytes here.stored
+  pub credits : space.credits ≡ length kept.pages.dirty
+  pub weight : here.weight ≡ space.weight + 2 * length kept.pages.dirty
+  pub index : here.index ≡ space.index
+  pub grant : Option Grant
+  pub covers : IsCovering geo here.stored space grant
 
 -- with no page dirty there is no room for what is asked: the two sides of the test
 pub record HasNoRoom (geo : RawGeometry) (here : ScriptRunning) (need : Need) (sides : NoSpace) : Type 0 where
@@ -161,6 +179,8 @@ pub record IsReplied (geo : RawGeometry) (before : ScriptRunning) (caller : ℕ)
   -- The index gets heavier by what is put at most; a group has five nodes at most.
   pub grown : HasGrown geo (nodes_added before caller op reply) (nodes_for before caller op) before after
   pub few : nodes_for before caller op ≤ 5
+  -- All that was promised has room.
+  pub covered : IsScriptCovered geo after
   -- What is done had room for what it asks, with the reserve of its class.
   pub admitted : IsAdmittedLine geo before caller op reply after
 

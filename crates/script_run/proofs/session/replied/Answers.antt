@@ -18,6 +18,7 @@ use Rattle.script_run.specs.Sessions.{mounted_over}
 use Rattle.script_run.proofs.Admitting.{admitted_of}
 use Rattle.script_run.proofs.Answering.{answer_of, asks_of, exact_of, grows_of, issued_of, no_room, reply_of, steady_next, told_of, weighed_of, written_of}
 use Rattle.script_run.proofs.AtOnce.{over}
+use Rattle.script_run.proofs.Covering.{steady_covers}
 use Rattle.script_run.proofs.Growth.{grown_of}
 use Rattle.script_run.proofs.Leaving.{stored_left, told_journal}
 use Rattle.script_run.proofs.Storing.{still_of, stored_of}
@@ -82,6 +83,7 @@ returns-clause-replied c =
       grown = grown_of old new before after c.args.now (nodes_added was c.args.caller c.args.op reply) (nodes_for was c.args.caller c.args.op) _
           (weighed_of passage c.args.caller c.args.now c.args.op c.step-outcome.result reply left is step.weighed) step.goes (omega arith);
       few = few_asked was.files c.args.caller c.args.now c.args.op c.args.fs.now.ready.sound;
+      covered = steady_covers geo new after c.args.now fits steady;
       admitted = admitted_of geo (backing_state_of old) (backing_state_of new) before c.args.caller c.args.now c.args.op reply
           (record {
             fits = c.args.fs.now.ready.kept_fits;

@@ -1,4 +1,5 @@
-use Rattle.std.proofs.Common.{◌+◌, refl}
+use Rattle.std.proofs.Common.{◌+◌, refl, sym, ◌∙◌}
+use Rattle.std.proofs.lemmas.Bool.{false≢true}
 use Rattle.ubifs_base.specs.RawOf.{raw_of}
 use Rattle.script_text.specs.Reply.{reply_line}
 use Rattle.script_run.specs.Sessions.{mounted_over}
@@ -20,3 +21,6 @@ returns-clause-part c =
       },
       c.in_ok-write_reply.ensures.ok,
     )
+
+pub returns-clause-session : goal.returns-clause-session
+returns-clause-session c = record { geometry = c.requires.session.geometry; steady = c.in_ok-reply.ensures.steady; bare = λ none. absurd (false≢true (sym none ∙ c.requires.mounted)) }
