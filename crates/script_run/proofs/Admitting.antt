@@ -8,7 +8,7 @@ use Rattle.std.specs.Option.{option_map_or}
 use Rattle.std.specs.Ordering.{match_ordering}
 use Rattle.std.specs.declared.cmp.Ordering.{Ordering}
 use Rattle.std.specs.declared.cmp.Ordering.TheVariants.{Less, Equal, Greater}
-use Rattle.std.proofs.Math.Nat.{mul-le-mul_left, mul-le-mul_right}
+use Rattle.std.proofs.Math.Nat.{mul-le-mul_right}
 use Rattle.std.proofs.lemmas.Bool.{false≢true}
 use Rattle.std.proofs.lemmas.List.Sums.{sum_by-cons}
 use Rattle.ubifs_base.specs.declared.raw_geometry.RawGeometry.{RawGeometry}
@@ -36,7 +36,6 @@ use Rattle.buffered_files.specs.Calls.{WasCovered}
 use Rattle.buffered_files.specs.Present.{DirtyPages, FitsPages, IsKept, newly_dirty, present, with_page}
 use Rattle.buffered_files.proofs.Alike.{present_bytes}
 use Rattle.buffered_files.proofs.Covers.{page_cases}
-use Rattle.plain_backing.specs.Covering.{leaf_count}
 use Rattle.vfs_ops.specs.Operations.{nodes_asked}
 use Rattle.vfs_ops.specs.Replies.{is_refusal}
 use Rattle.vfs_ops.specs.Steps.{IsAdmittedReply, WasAdmitted}
@@ -123,7 +122,7 @@ few_fresh tree kept ino place n =
     by page false is none = refl
 
 -- What is known where a test of admission held: with which numbers, for which need, and how heavy the index is afterwards.
-pub record IsTested (geo : RawGeometry) (seen : Files) (put : Tree) (space : Space) (first need : Need) (stored : Tree) (after : ℕ) : Type 0 where
+pub record IsTested (geo : RawGeometry) (seen : Files) (put : Tree) (space : Space) (first need : Need) (index : ℕ) : Type 0 where
   pub same : IsAlike seen (record seen { tree = put })
   pub held : tree_bytes put ≤ space.used + space.held + credit_bytes * space.credits
   pub main : space.main ≡ main_lebs geo
@@ -132,25 +131,20 @@ pub record IsTested (geo : RawGeometry) (seen : Files) (put : Tree) (space : Spa
   pub nodes : need.nodes ≡ first.nodes
   pub class : need.class ≡ first.class
   pub passed : needed space first ≤ room_for geo space first
-  pub leaves : leaf_count stored ≤ geo.fanout * after
-  pub weight : after ≤ space.weight + 2 * space.credits + need.nodes
+  pub weight : index ≤ space.weight + 2 * space.credits + need.nodes
 
 fits_beside : (bytes used held credits asked own more room greater : ℕ) → bytes ≤ used + held + 4304 * credits → own ≤ asked → used + held + 4304 * (credits + asked) + more ≤ room → room ≤ greater → bytes + 0 + 4304 * (0 + own) + more ≤ greater
 fits_beside bytes used held credits asked own more room greater few own_few fits le = omega (arith, few, own_few, fits, le)
 
-le_then : (a b c : ℕ) → a ≤ b → b ≤ c → a ≤ c
-le_then a b c p q = omega (arith, p, q)
-
-tested : (geo : RawGeometry) (seen : Files) (put : Tree) (space : Space) (first need : Need) (stored : Tree) (after : ℕ) → IsTested geo seen put space first need stored after → HadRoom geo seen need stored
-tested geo seen put space first need stored after h =
+tested : (geo : RawGeometry) (seen : Files) (put : Tree) (space : Space) (first need : Need) (index : ℕ) → IsTested geo seen put space first need index → HadRoom geo seen need index
+tested geo seen put space first need index h =
     let weight : ℕ = space.weight + 2 * space.credits in
     let credits = h.credits in
     let nodes = h.nodes in
     let main = h.main in
-    let heavy = h.weight in
-    let index = room_mono geo 0 space.index (weight + 2 * (0 + need.credits) + need.nodes) (space.weight + 2 * (space.credits + first.credits) + first.nodes) (omega arith) (omega (arith, credits, nodes)) in
+    let lebs = room_mono geo 0 space.index (weight + 2 * (0 + need.credits) + need.nodes) (space.weight + 2 * (space.credits + first.credits) + first.nodes) (omega arith) (omega (arith, credits, nodes)) in
     let same : reserve need.class ≡ reserve first.class = ap reserve h.class in
-    let more : room_for geo space first ≤ room_for geo (space_beside geo put weight) need = mul-le-mul_right (geo.leb_size - leb_reserve geo) (omega (arith, index, main, same)) in
+    let more : room_for geo space first ≤ room_for geo (space_beside geo put weight) need = mul-le-mul_right (geo.leb_size - leb_reserve geo) (omega (arith, lebs, main, same)) in
     let passed : space.used + space.held + 4304 * (space.credits + first.credits) + need.bytes ≤ room_for geo space first =
     subst (λ (b : ℕ). space.used + space.held + 4304 * (space.credits + first.credits) + b ≤ room_for geo space first) (sym h.bytes) h.passed in
     record {
@@ -158,7 +152,7 @@ tested geo seen put space first need stored after h =
       same = h.same;
       weight = weight;
       room = record { fits = fits_beside (tree_bytes put) space.used space.held space.credits first.credits need.credits need.bytes (room_for geo space first) (room_for geo (space_beside geo put weight) need) h.held h.credits passed more };
-      weighed = le_then (leaf_count stored) (geo.fanout * after) (geo.fanout * (weight + need.nodes)) h.leaves (mul-le-mul_left geo.fanout heavy);
+      heavy = h.weight;
     }
 
 -- What is known of a step over a backing of which no call fails.
@@ -168,20 +162,19 @@ pub record IsHeavy (geo : RawGeometry) (old new : BackingState) (kept : Kept) (n
   pub main : old.space.main ≡ main_lebs old.geometry
   pub used : old.space.used ≡ tree_bytes old.tree
   pub credits : old.space.credits ≡ length kept.pages.dirty
-  pub leaves : leaf_count new.tree ≤ geo.fanout * new.space.weight
   pub goes : Goes (2 * length kept.pages.dirty + nodes) old new
 
 -- what was covered had room, at the first test or at the second
 covered_room : (geo : RawGeometry) (old new : BackingState) (kept : Kept) (first second need : Need) (nodes : ℕ) → IsHeavy geo old new kept nodes → nodes ≡ need.nodes → need.credits ≤ first.credits → need.credits ≤ second.credits
     → (need.bytes ≡ first.bytes) × (need.nodes ≡ first.nodes) × (need.class ≡ first.class) → (need.bytes ≡ second.bytes) × (need.nodes ≡ second.nodes) × (need.class ≡ second.class)
-    → WasCovered old new kept first second nodes → HadRoom geo (present old.tree kept) need new.tree
+    → WasCovered old new kept first second nodes → HadRoom geo (present old.tree kept) need new.space.weight
 covered_room geo old new kept first second need nodes h asks few few_too a b (inl passed) =
     let bytes = seen_bytes old.tree kept h.fits in
     let used = h.used in
     let credits = h.credits in
     let weight = h.goes.weight in
     let P : RawGeometry → Type 0 = λ g. needed old.space first ≤ room_for g old.space first in
-    tested geo (present old.tree kept) (present old.tree kept).tree old.space first need new.tree new.space.weight (record {
+    tested geo (present old.tree kept) (present old.tree kept).tree old.space first need new.space.weight (record {
       same = record { inodes = refl; blocks = refl; entries = refl; highest = refl; handles = refl; sizes = λ ino inode found file. refl };
       held = omega (arith, bytes, used, credits);
       main = h.main ∙ ap main_lebs h.geometry;
@@ -190,7 +183,6 @@ covered_room geo old new kept first second need nodes h asks few few_too a b (in
       nodes = a.1;
       class = a.2;
       passed = subst P h.geometry passed;
-      leaves = h.leaves;
       weight = omega (arith, weight, credits, asks);
     })
 covered_room geo old new kept first second need nodes h asks few few_too a b (inr last) =
@@ -202,7 +194,7 @@ covered_room geo old new kept first second need nodes h asks few few_too a b (in
     let weight = last.since.weight in
     let same : state.geometry ≡ geo = room.goes.geometry ∙ h.geometry in
     let P : RawGeometry → Type 0 = λ g. needed state.space second ≤ room_for g state.space second in
-    tested geo (present old.tree kept) state.tree state.space second need new.tree new.space.weight (record {
+    tested geo (present old.tree kept) state.tree state.space second need new.space.weight (record {
       same = room.files;
       held = omega (arith, used);
       main = room.main ∙ ap main_lebs same;
@@ -211,13 +203,12 @@ covered_room geo old new kept first second need nodes h asks few few_too a b (in
       nodes = b.1;
       class = b.2;
       passed = subst P same last.covered;
-      leaves = h.leaves;
       weight = omega (arith, weight, asks);
     })
 
 -- a write that adds a block was paid at a test
 write_room : (geo : RawGeometry) (old new : BackingState) (kept : Kept) (found : Option ℕ) (offs len : ℕ) → IsHeavy geo old new kept 0 → ((ino : ℕ) → found ≡ Some ino → WasPaid old new kept ino offs len 0)
-    → 0 < option_map_or (λ ino. fresh_pages (present old.tree kept).tree ino offs len) found 0 + 0 → HadRoom geo (present old.tree kept) (credits_need (option_map_or (λ ino. fresh_pages (present old.tree kept).tree ino offs len) found 0)) new.tree
+    → 0 < option_map_or (λ ino. fresh_pages (present old.tree kept).tree ino offs len) found 0 + 0 → HadRoom geo (present old.tree kept) (credits_need (option_map_or (λ ino. fresh_pages (present old.tree kept).tree ino offs len) found 0)) new.space.weight
 write_room geo old new kept None offs len h paid asks = absurd (omega (arith, asks))
 write_room geo old new kept (Some ino) offs len h paid asks = by (paid ino refl)
   where
@@ -238,12 +229,12 @@ write_room geo old new kept (Some ino) offs len h paid asks = by (paid ino refl)
             step true le = omega (arith, le)
             step false le = omega (arith, le)
 
-    by : WasPaid old new kept ino offs len 0 → HadRoom geo (present old.tree kept) (credits_need fresh) new.tree
+    by : WasPaid old new kept ino offs len 0 → HadRoom geo (present old.tree kept) (credits_need fresh) new.space.weight
     by (inl none) = absurd (omega (arith, none, few, asks))
     by (inr covered) = covered_room geo old new kept (credits_need (newly_dirty kept.pages.dirty ino offs len - 0)) (write_need offs len 0) (credits_need fresh) 0 h refl (omega (arith, few)) (omega (arith, all)) (refl, refl, refl) (refl, refl, refl) covered
 
 -- a group with a node was admitted
-group_room : (geo : RawGeometry) (old new : BackingState) (kept : Kept) (need : Need) → IsHeavy geo old new kept need.nodes → WasCovered old new kept need need need.nodes → HadRoom geo (present old.tree kept) need new.tree
+group_room : (geo : RawGeometry) (old new : BackingState) (kept : Kept) (need : Need) → IsHeavy geo old new kept need.nodes → WasCovered old new kept need need need.nodes → HadRoom geo (present old.tree kept) need new.space.weight
 group_room geo old new kept need h covered = covered_room geo old new kept need need need need.nodes h refl (omega arith) (omega arith) (refl, refl, refl) (refl, refl, refl) covered
 
 nothing_asked : (credits nodes : ℕ) → credits ≡ 0 → nodes ≡ 0 → 0 < credits + nodes → ⊥
@@ -256,14 +247,14 @@ no_size (change ∷ group) none asks = omega (arith, none)
 
 -- what a reply that is done had room for
 pub admitted_of : (geo : RawGeometry) (old new : BackingState) (kept : Kept) (caller now : ℕ) (op : Op) (reply : Reply) → IsHeavy geo old new kept (nodes_asked (present old.tree kept) caller now op) → IsAdmittedReply old new kept caller now 0 op reply
-    → is_refusal reply ≡ false → 0 < (least_need (present old.tree kept) caller now op).credits + (least_need (present old.tree kept) caller now op).nodes → HadRoom geo (present old.tree kept) (least_need (present old.tree kept) caller now op) new.tree
+    → is_refusal reply ≡ false → 0 < (least_need (present old.tree kept) caller now op).credits + (least_need (present old.tree kept) caller now op).nodes → HadRoom geo (present old.tree kept) (least_need (present old.tree kept) caller now op) new.space.weight
 admitted_of geo old new kept caller now op reply h (inl refused) done asks = absurd (false≢true (sym done ∙ ap is_refusal refused.1))
 admitted_of geo old new kept caller now op reply h (inr admitted) done asks = by op h admitted asks
   where
     seen : Files
     seen = present old.tree kept
 
-    by : (op : Op) → IsHeavy geo old new kept (nodes_asked seen caller now op) → WasAdmitted old new kept caller now 0 op → 0 < (least_need seen caller now op).credits + (least_need seen caller now op).nodes → HadRoom geo seen (least_need seen caller now op) new.tree
+    by : (op : Op) → IsHeavy geo old new kept (nodes_asked seen caller now op) → WasAdmitted old new kept caller now 0 op → 0 < (least_need seen caller now op).credits + (least_need seen caller now op).nodes → HadRoom geo seen (least_need seen caller now op) new.space.weight
     by (OpenFile path slot) h a asks = absurd (nothing_asked _ _ refl refl asks)
     by (Close slot) h a asks = absurd (nothing_asked _ _ refl refl asks)
     by (Read slot offs len) h a asks = absurd (nothing_asked _ _ refl refl asks)

@@ -12,7 +12,7 @@ use Rattle.script_run.specs.Run.{IsScriptCovered, ScriptRunning}
 use Rattle.script_run.specs.Sessions.{IsSession, IsSteady, mounted_over, running_of}
 
 -- what is promised over a backing of which no call fails
-pub steady_covers : (geo : RawGeometry) (backing : PlainBacking) (kept : Kept) (now : ℕ) → IsKept (backing_state_of backing).tree kept → IsSteady geo backing kept → IsScriptCovered geo (mounted_over backing kept now)
+abbrev pub steady_covers : (geo : RawGeometry) (backing : PlainBacking) (kept : Kept) (now : ℕ) → IsKept (backing_state_of backing).tree kept → IsSteady geo backing kept → IsScriptCovered geo (mounted_over backing kept now)
 steady_covers geo backing kept now fits steady =
     let state = backing_state_of backing in
     record {
@@ -30,7 +30,7 @@ steady_covers geo backing kept now fits steady =
     }
 
 -- whether the volume is mounted, the time, the number of the line and the workers stand beside it
-pub covered_in : (geo : RawGeometry) (here : ScriptRunning) (mounted : Bool) (now number workers : ℕ) → IsScriptCovered geo here → IsScriptCovered geo (record here { mounted = mounted; now = now; number = number; workers = workers })
+abbrev pub covered_in : (geo : RawGeometry) (here : ScriptRunning) (mounted : Bool) (now number workers : ℕ) → IsScriptCovered geo here → IsScriptCovered geo (record here { mounted = mounted; now = now; number = number; workers = workers })
 covered_in geo here mounted now number workers is = record {
   kept = is.kept;
   fits = is.fits;

@@ -57,7 +57,7 @@ full_takes_none geo before after caller op reply h asks full = by (is_refusal re
     need : Need
     need = least_need before.files caller before.now op
 
-    none : HadRoom geo before.files need after.stored → ⊥
+    none : HadRoom geo before.files need h.covered.space.weight → ⊥
     none had =
         let inodes : sum_by inode_bytes (values_of before.files.tree.inodes) ≡ sum_by inode_bytes (values_of had.put.inodes) = ap (λ (x : Inodes). sum_by inode_bytes (values_of x)) had.same.inodes in
         let entries : sum_by entry_bytes (values_of before.files.tree.entries) ≡ sum_by entry_bytes (values_of had.put.entries) = ap (λ (x : Entries). sum_by entry_bytes (values_of x)) had.same.entries in

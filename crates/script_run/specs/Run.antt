@@ -154,11 +154,11 @@ nodes_for before caller op = nodes_asked before.files caller before.now op
 abbrev pub nodes_added : ScriptRunning → ℕ → Op → Reply → ℕ
 nodes_added before caller op reply = added_by (2 * pages_in op + nodes_for before caller op) (max 2 (nodes_for before caller op)) reply
 
--- what is done, if it asks for a credit or a node at least, had room for what it asks
-abbrev pub IsAdmittedLine : RawGeometry → ScriptRunning → ℕ → Op → Reply → ScriptRunning → Type 0
-IsAdmittedLine geo before caller op reply after =
+-- What is done and asks for a credit or a node had room for that. The index behind the line has this weight.
+abbrev pub IsAdmittedLine : RawGeometry → ScriptRunning → ℕ → Op → Reply → ℕ → Type 0
+IsAdmittedLine geo before caller op reply index =
     is_refusal reply ≡ false → 0 < (least_need before.files caller before.now op).credits + (least_need before.files caller before.now op).nodes
-    → HadRoom geo before.files (least_need before.files caller before.now op) after.stored
+    → HadRoom geo before.files (least_need before.files caller before.now op) index
 
 -- a caller's line, as the next of its trace
 abbrev pub script_line_of : ScriptRunning → ℕ → Op → Reply → TraceLine
@@ -181,8 +181,8 @@ pub record IsReplied (geo : RawGeometry) (before : ScriptRunning) (caller : ℕ)
   pub few : nodes_for before caller op ≤ 5
   -- All that was promised has room.
   pub covered : IsScriptCovered geo after
-  -- What is done had room for what it asks, with the reserve of its class.
-  pub admitted : IsAdmittedLine geo before caller op reply after
+  -- What is done had room for what it asks, beside an index that with its nodes is no lighter than this one.
+  pub admitted : IsAdmittedLine geo before caller op reply covered.space.weight
 
 -- a caller's line: the reply to it, under the next number
 pub record IsLineServed (geo : RawGeometry) (before : ScriptRunning) (caller : ℕ) (op : Op) (text : List ℕ) (after : ScriptRunning) : Type 0 where

@@ -1,11 +1,9 @@
-use Rattle.std.proofs.Common.{◌+◌, ◌*◌, ◌≤◌, ◌++◌, ap, arith, length, refl, sym, subst, ◌∙◌}
+use Rattle.std.proofs.Common.{◌+◌, ◌++◌, ap, arith, length, refl, sym, subst, ◌∙◌}
 use Rattle.std.specs.Prelude.{if◌then◌else◌}
-use Rattle.ubifs_base.specs.declared.raw_geometry.RawGeometry.{RawGeometry}
 use Rattle.ubifs_base.specs.RawOf.{raw_of}
 use Rattle.fs_model.specs.declared.reply.Reply.{Reply}
 use Rattle.fs_model.specs.Backing.{next_orphans, orphan_room}
 use Rattle.fs_model.specs.Orphan.{leaves_orphan}
-use Rattle.plain_backing.specs.Covering.{leaf_count}
 use Rattle.plain_backing.specs.PlainBacking.{backing_state_of}
 use Rattle.vfs_ops.specs.declared.event.Event.TheVariants.{Call}
 use Rattle.vfs_ops.specs.declared.event.Outcome.{Outcome}
@@ -91,7 +89,6 @@ returns-clause-replied c =
             main = refl;
             used = refl;
             credits = c.requires.steady.credits;
-            leaves = subst (λ (g : RawGeometry). leaf_count (backing_state_of new).tree ≤ g.fanout * (backing_state_of new).space.weight) steady.geometry steady.covers.weighed;
             goes = step.goes;
           })
           (subst (λ (o : Outcome). IsAdmittedCall (backing_state_of old) (backing_state_of new) before (Call c.args.caller c.args.now 0 c.args.op) o) is step.admitted);
