@@ -1,3 +1,4 @@
+pub mod Clearing
 pub mod Counted
 pub mod Covered
 pub mod Covers

@@ -177,39 +177,9 @@ pub keys-cleared : {K V : Type 0} (p : K → Bool) (cells : List (K × Option V)
 keys-cleared p [] = refl
 keys-cleared p (c ∷ cells) = ap (λ ks. c.0 ∷ ks) (keys-cleared p cells)
 
-pub cleared-agree : {K V : Type 0} (p q : K → Bool) (cells : List (K × Option V)) → AllByRecursion (λ k. p k ≡ q k) (keys_of cells) → cleared p cells ≡ cleared q cells
-cleared-agree p q [] h = refl
-cleared-agree p q (c ∷ cells) h = rw h.0 (ap (λ xs. (c.0, cond (q c.0) None c.1) ∷ xs) (cleared-agree p q cells h.1))
-
 pub cleared-none : {K V : Type 0} (p : K → Bool) (cells : List (K × Option V)) → AllByRecursion (λ k. p k ≡ false) (keys_of cells) → cleared p cells ≡ cells
 cleared-none p [] h = refl
 cleared-none p (c ∷ cells) h = rw h.0 (ap (λ xs. c ∷ xs) (cleared-none p cells h.1))
-
-or_true : (b : Bool) → (b || true) ≡ true
-or_true true = refl
-or_true false = refl
-
-or_false : (b : Bool) → (b || false) ≡ b
-or_false true = refl
-or_false false = refl
-
-above-apart : {K : Type 0} (cmp : K → K → Ordering) (p : K → Bool) (k : K) (ys : List K) → Above cmp k ys → AllByRecursion (λ y. p y ≡ (p y || is_at (cmp k) y)) ys
-above-apart cmp p k [] h = tt
-above-apart cmp p k (y ∷ ys) h = (rw h.0 (sym (or_false (p y))), above-apart cmp p k ys h.1)
-
--- one cell more is emptied
-pub put-cleared : {K V : Type 0} {cmp : K → K → Ordering} → IsTotalOrder cmp → (p : K → Bool) (cells : List (K × Option V)) (k : K) → IsStrictlySortedBy cmp (keys_of cells)
-    → set_value (is_at (cmp k)) (cleared p cells) None ≡ cleared (λ y. p y || is_at (cmp k) y) cells
-put-cleared o p [] k s = refl
-put-cleared {K} {V} {cmp} o p (c ∷ cells) k s =
-    by (put-cleared o p cells k (sorted_tail cmp c.0 (keys_of cells) s)) (sorted_head cmp c.0 (keys_of cells) s) (cmp k c.0) refl
-  where
-    by : set_value (is_at (cmp k)) (cleared p cells) None ≡ cleared (λ y. p y || is_at (cmp k) y) cells → Above cmp c.0 (keys_of cells) → (q : Ordering) → cmp k c.0 ≡ q
-        → cond (is_eq q) ((c.0, None) ∷ cleared p cells) ((c.0, cond (p c.0) None c.1) ∷ set_value (is_at (cmp k)) (cleared p cells) None) ≡ (c.0, cond (p c.0 || is_eq q) None c.1) ∷ cleared (λ y. p y || is_at (cmp k) y) cells
-    by more above Less e = rw (or_false (p c.0)) (ap (λ xs. (c.0, cond (p c.0) None c.1) ∷ xs) more)
-    by more above Equal e =
-        rw (or_true (p c.0)) (ap (λ xs. (c.0, None) ∷ xs) (cleared-agree p (λ y. p y || is_at (cmp k) y) cells (above-apart cmp p k (keys_of cells) (above-same o k c.0 (keys_of cells) e above))))
-    by more above Greater e = rw (or_false (p c.0)) (ap (λ xs. (c.0, cond (p c.0) None c.1) ∷ xs) more)
 
 pub none_from : {X : Type 0} (o : Option X) → is_some o ≡ false → o ≡ None
 none_from None h = refl

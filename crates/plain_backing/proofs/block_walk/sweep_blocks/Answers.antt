@@ -1,23 +1,15 @@
-use Rattle.std.proofs.Common.{None, ap, refl, ◌∙◌}
-use Rattle.std.specs.BTreeMap.{is_at}
-use Rattle.fs_model.specs.Files.{pair_cmp}
-use Rattle.plain_backing.specs.Cells.{seen_cells}
-use Rattle.plain_backing.proofs.Seen.{seen-remove_entry}
-use Rattle.plain_backing.proofs.Walk.{empty_at, one_fewer}
+use Rattle.std.proofs.Common.{rules, ◌∙◌}
+use Rattle.plain_backing.proofs.Clearing.{walk_sweeps}
 use Rattle.plain_backing.proofs.block_walk.sweep_blocks.Goals as goal
 
-pub loop-at-init : goal.loop-at-init
-loop-at-init c = record { same = refl; empty = c.next_empty-at.ensures }
+pub loop-cell-preserved : goal.loop-cell-preserved
+loop-cell-preserved c =
+    let steps = c.next.ensures.steps in
+    (c.in-Some.ensures.goes.keeps, steps.0 ∙ c.loop-cell.invariant.1, walk_sweeps _ _ _ (λ f k v b w g t. search rules) (λ range. tt) _ _ _ _ _ steps.2 ∙ c.loop-cell.invariant.2)
 
-pub loop-at-smaller : goal.loop-at-smaller
-loop-at-smaller c =
-    let here = empty_at c.loop-at.map.entries c.args.ino c.in-Some.block c.loop-at.at c.in-Some.is c.loop-at.invariant.empty in
-    one_fewer c.remove.result c.loop-at.map.entries c.remove.new.self.entries None (c.remove.ensures.value ∙ here) c.remove.ensures.len
-
-pub loop-at-preserved : goal.loop-at-preserved
-loop-at-preserved c =
-    let here = empty_at c.loop-at.map.entries c.args.ino c.in-Some.block c.loop-at.at c.in-Some.is c.loop-at.invariant.empty in
-    record {
-      same = ap seen_cells c.remove.ensures.entries ∙ seen-remove_entry (is_at (pair_cmp (c.args.ino, c.in-Some.block))) c.loop-at.map.entries here ∙ c.loop-at.invariant.same;
-      empty = c.next_empty-at-in-Some.ensures;
-    }
+pub returns : goal.returns
+returns c =
+    let steps = c.next.ensures.steps in
+    let named = steps.0 ∙ c.loop-cell.invariant.1 in
+    let told = walk_sweeps _ _ _ (λ f k v b w g t. search rules) (λ range. tt) _ _ _ _ _ steps.2 ∙ c.loop-cell.invariant.2 in
+    record { same = search (rules, named, told) }
