@@ -29,6 +29,7 @@ pub mod SizePut
 pub mod SizeValues
 pub mod SizesAlike
 pub mod Throughs
+pub mod Taking
 pub mod TicketCut
 pub mod Trimmed
 pub mod WholePage

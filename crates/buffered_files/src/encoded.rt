@@ -7,7 +7,7 @@ ghost use Rattle.buffered_files.specs.PagePut.{page_at};
 ghost use Rattle.buffered_files.specs.Present.{bytes_before_end, filled};
 
 use crate::kept::Kept;
-use crate::put::filled;
+use crate::put::fill;
 use std::alloc::Global;
 use ubifs_base::{Bytes, Memory};
 
@@ -21,11 +21,7 @@ pub fn page_bytes(alloc: Global, kept: &Kept, ino: u32, block: u32) -> Result<Op
     let Some(inode) = kept.inodes.get(ino) else {
         return Ok(None);
     };
-    let bytes = filled(
-        Vec::new(alloc),
-        &dirty.bytes,
-        bytes_before_end(inode.size, block),
-    )?;
+    let bytes = filled(alloc, &dirty.bytes, bytes_before_end(inode.size, block))?;
     Ok(Some(bytes))
 }
 
@@ -44,8 +40,18 @@ pub fn has_bytes(kept: &Kept, ino: u32, block: u32, bytes: &Bytes) -> bool
     is_filled(dirty.bytes.as_slice(), len, bytes.as_slice())
 }
 
+// Bytes with zeros up to this length, which ends in a page.
+fn filled(alloc: Global, bytes: &Bytes, len: usize) -> Result<Bytes, Memory>
+    requires { len ≤ 4096 }
+    ensures { IfOk result (λ new. new ≡ filled bytes.now len) }
+{
+    let mut new = Vec::from_slice(alloc, bytes.as_slice())?;
+    fill(&mut new, len)?;
+    Ok(Bytes::from_vec(new))
+}
+
 // How many bytes of a page stand before its file's end.
-fn bytes_before_end(size: u64, block: u32) -> usize
+pub(crate) fn bytes_before_end(size: u64, block: u32) -> usize
     ensures bytes { result ≡ bytes_before_end size block }
     ensures page { result ≤ 4096 }
 {

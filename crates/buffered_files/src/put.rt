@@ -1,34 +1,35 @@
 // Dirty pages are put.
 
-ghost use Rattle.std.specs.Prelude.{◌≡◌, ◌+◌, ◌*◌, [], ◌<◌, ◌≤◌, nat_lt, is_some, true, false, Some, if◌then◌else◌, IfOk, OnOk, OnErr, length, drop};
+ghost use Rattle.std.specs.Prelude.{◌≡◌, ◌+◌, ◌*◌, [], ◌<◌, ◌≤◌, nat_lt, is_some, true, false, Some, if◌then◌else◌, IfOk, IfSome, OnOk, OnErr, length, drop, take};
 ghost use Rattle.std.specs.Map.{lookup};
+ghost use Rattle.std.specs.Option.{option_map};
 ghost use Rattle.std.specs.BTreeMap.{is_at};
 ghost use Rattle.std.specs.Ordering.{nat_cmp};
-ghost use Rattle.page_cache.specs.Pages.{dirty_at, is_current, pages_of, without_dirty};
+ghost use Rattle.page_cache.specs.Pages.{dirty_at, is_current, pages_of, with_bytes, without_dirty};
 ghost use Rattle.fs_model.specs.Backing.{Goes, HasCause};
 ghost use Rattle.buffered_files.specs.Alike.{IsAlike};
 ghost use Rattle.buffered_files.specs.Calls.{GrowsBy, SureGoes, TellsMode, added_or_failed};
 ghost use Rattle.buffered_files.specs.Cuts.{PutsSeen};
 ghost use Rattle.buffered_files.specs.PagePut.{IsPutOrKept, page_at};
-ghost use Rattle.buffered_files.specs.Present.{IsKept, dirty_of_others, has_dirty, present, page_of, filled};
+ghost use Rattle.buffered_files.specs.Present.{IsKept, dirty_of_others, has_dirty, present, filled};
 
 use crate::copies::push_copies;
+use crate::encoded::bytes_before_end;
 use crate::kept::Kept;
 use fs_laws::a_page_keeps_trees_proper;
 use fs_model::{Backing, PageNode, StoreFault};
 use page_cache::Ticket;
 use std::alloc::Global;
-use std::mem::replace;
 use ubifs_base::{Bytes, Memory};
 
 /// Puts the page of a ticket, with its bytes up to the file's end and the inode as it is now. It answers whether the page is dirty at the ticket's
-/// version: where it isn't, all is as it was. After a fault the page is dirty and paid as before. Its bytes are copied into `room`, which serves page
-/// after page.
+/// version: where it isn't, all is as it was. After a fault the page is dirty and paid as before. Its bytes aren't copied: they are taken out for the
+/// put, and after a fault they stand there again.
 pub fn put_ticket<B: Backing>(
+    alloc: Global,
     backing: &mut B,
     kept: &mut Kept,
     ticket: &Ticket,
-    room: &mut Vec<u8>,
 ) -> Result<bool, StoreFault>
     requires kept { IsKept (B.state backing.old).tree kept.old }
     requires paid { length kept.old.pages.dirty ≤ (B.state backing.old).space.credits }
@@ -52,23 +53,28 @@ pub fn put_ticket<B: Backing>(
 {
     // Its proof knows from this that a dirty page isn't clean.
     let _dirty = kept.pages.dirty();
-    if !kept.pages.is_current(ticket) {
+    let Some((page, len)) = taken_page(alloc, kept, ticket)? else {
         return Ok(false);
-    }
-    let page = page_node(kept, ticket, room)?;
+    };
     a_page_keeps_trees_proper();
-    backing.put_page(&page)?;
-    kept.pages.mark_clean(ticket);
-    *room = page.bytes.into_vec();
-    Ok(true)
+    match backing.put_page(&page) {
+        Ok(()) => {
+            kept.pages.mark_clean(ticket);
+            Ok(true)
+        }
+        Err(fault) => {
+            give_back(kept, ticket, page.bytes.into_vec(), len);
+            Err(fault)
+        }
+    }
 }
 
 /// Puts the page that became dirty first, as `put_ticket` does, and answers whether there was one. After a fault the page is
 /// dirty and paid as before.
 pub fn put_oldest<B: Backing>(
+    alloc: Global,
     backing: &mut B,
     kept: &mut Kept,
-    room: &mut Vec<u8>,
 ) -> Result<bool, StoreFault>
     requires kept { IsKept (B.state backing.old).tree kept.old }
     requires paid { length kept.old.pages.dirty ≤ (B.state backing.old).space.credits }
@@ -88,7 +94,7 @@ pub fn put_oldest<B: Backing>(
     ensures sure { SureGoes (B.outlook backing.old) (B.outlook backing.new) (B.state backing.old) (B.state backing.new) }
 {
     match kept.pages.oldest() {
-        Some(ticket) => put_ticket(backing, kept, &ticket, room),
+        Some(ticket) => put_ticket(alloc, backing, kept, &ticket),
         None => Ok(false),
     }
 }
@@ -120,9 +126,8 @@ pub fn write_back_file<B: Backing>(
     ensures sure { SureGoes (B.outlook backing.old) (B.outlook backing.new) (B.state backing.old) (B.state backing.new) }
 {
     let tickets = kept.pages.tickets_of(alloc, ino)?;
-    let mut room = Vec::new(alloc);
     for ticket in tickets {
-        put_ticket(backing, kept, &ticket, &mut room)?;
+        put_ticket(alloc, backing, kept, &ticket)?;
     }
     Ok(())
 }
@@ -150,47 +155,75 @@ pub fn write_back<B: Backing>(
     ensures mode { TellsMode (B.state backing.new) result }
     ensures sure { SureGoes (B.outlook backing.old) (B.outlook backing.new) (B.state backing.old) (B.state backing.new) }
 {
-    let mut room = Vec::new(alloc);
     let mut left = kept.pages.dirty();
     while left > 0 {
         left -= 1;
-        put_oldest(backing, kept, &mut room)?;
+        put_oldest(alloc, backing, kept)?;
     }
     kept.inodes.clear();
     Ok(())
 }
 
-// The page of a ticket as it is put. Its bytes are copied into the room, which is left empty.
-fn page_node(kept: &Kept, ticket: &Ticket, room: &mut Vec<u8>) -> Result<PageNode, Memory>
-    requires inode { is_some (lookup (is_at (nat_cmp ticket.now.ino)) kept.now.inodes) ≡ true }
-    requires page { is_some (dirty_at kept.now.pages ticket.now.ino ticket.now.block) ≡ true }
-    ensures { IfOk result (λ page. (inode : _) (dirty : _) → lookup (is_at (nat_cmp ticket.now.ino)) kept.now.inodes ≡ Some inode → dirty_at kept.now.pages ticket.now.ino ticket.now.block ≡ Some dirty
-        → page ≡ page_of ((ticket.now.ino, ticket.now.block), dirty) inode) }
+// Takes the page of a ticket out as it is put, and answers it with the number of its dirty bytes: where it is dirty at the ticket's version. No byte is
+// in its place then. After a fault all is as it was.
+fn taken_page(
+    alloc: Global,
+    kept: &mut Kept,
+    ticket: &Ticket,
+) -> Result<Option<(PageNode, usize)>, Memory>
+    requires { is_current kept.old.pages ticket.now ≡ true → is_some (lookup (is_at (nat_cmp ticket.now.ino)) kept.old.inodes) ≡ true }
+    ensures some { IfOk result (λ taken. is_some taken ≡ is_current kept.old.pages ticket.now) }
+    ensures page { IfOk result (λ taken. IfSome taken (λ page. page_at kept.old ticket.now.ino ticket.now.block ≡ Some page.0)) }
+    ensures len { IfOk result (λ taken. IfSome taken (λ page. option_map (λ dirty. dirty.bytes) (dirty_at kept.old.pages ticket.now.ino ticket.now.block) ≡ Some (take page.1 page.0.bytes))) }
+    ensures left { OnOk result (kept.new ≡ (if is_current kept.old.pages ticket.now then record kept.old { pages = with_bytes kept.old.pages ticket.now [] } else kept.old)) }
+    ensures err { OnErr result (kept.new ≡ kept.old) }
 {
-    let inode = kept.inodes.get(ticket.ino).unwrap();
-    let dirty = kept.pages.dirty_page(ticket.ino, ticket.block).unwrap();
-    let start = 4096 * (ticket.block as u64);
-    let len = inode.size.saturating_sub(start).min(4096) as usize;
-    let empty = Vec::new(*room.allocator());
-    Ok(PageNode {
-        ino: ticket.ino,
-        block: ticket.block,
-        bytes: filled(replace(room, empty), &dirty.bytes, len)?,
-        inode: inode.clone()?,
-    })
+    let Some(inode) = kept.inodes.get(ticket.ino) else {
+        return Ok(None);
+    };
+    let inode = inode.clone()?;
+    let Some(bytes) = kept
+        .pages
+        .exchange(ticket, Bytes::from_vec(Vec::new(alloc)))
+    else {
+        return Ok(None);
+    };
+    let mut bytes = bytes.into_vec();
+    let len = bytes.len();
+    match fill(&mut bytes, bytes_before_end(inode.size, ticket.block)) {
+        Ok(()) => Ok(Some((
+            PageNode {
+                ino: ticket.ino,
+                block: ticket.block,
+                bytes: Bytes::from_vec(bytes),
+                inode,
+            },
+            len,
+        ))),
+        Err(fault) => {
+            give_back(kept, ticket, bytes, len);
+            Err(fault)
+        }
+    }
 }
 
-// Bytes with zeros up to this length, which ends in a page, in place of what stood in the room.
-pub(crate) fn filled(room: Vec<u8>, bytes: &Bytes, len: usize) -> Result<Bytes, Memory>
-    requires { len ≤ 4096 }
-    ensures { IfOk result (λ new. new ≡ filled bytes.now len) }
+// Gives a ticket's page the first of these bytes, so many.
+fn give_back(kept: &mut Kept, ticket: &Ticket, mut bytes: Vec<u8>, len: usize)
+    ensures { kept.new ≡ (if is_current kept.old.pages ticket.now then record kept.old { pages = with_bytes kept.old.pages ticket.now (take len bytes.items) } else kept.old) }
 {
-    let old = bytes.as_slice();
-    let mut new = room;
-    new.clear();
-    new.extend_from_slice(old)?;
-    if old.len() < len {
-        push_copies(&mut new, 0, len - old.len())?;
+    bytes.truncate(len);
+    kept.pages.exchange(ticket, Bytes::from_vec(bytes));
+}
+
+// Fills bytes with zeros up to this length, which ends in a page. Where there is no memory they are as they were.
+pub(crate) fn fill(bytes: &mut Vec<u8>, len: usize) -> Result<(), Memory>
+    requires { len ≤ 4096 }
+    ensures ok { OnOk result (bytes.new.items ≡ filled bytes.old.items len) }
+    ensures err { OnErr result (bytes.new.items ≡ bytes.old.items) }
+{
+    let more = len.saturating_sub(bytes.len());
+    if more > 0 {
+        push_copies(bytes, 0, more)?;
     }
-    Ok(Bytes::from_vec(new))
+    Ok(())
 }

@@ -15,10 +15,9 @@ ghost use Rattle.buffered_files.specs.Calls.{SureGoes};
 ghost use Rattle.buffered_files.specs.Present.{IsKept, newly_dirty, present};
 
 use crate::kept::Kept;
-use crate::reads::copy_of;
 use crate::written_pages::written_pages;
 use fs_model::{BLOCK_SIZE, Backing, Inode, StoreFault};
-use std::alloc::{AllocError, Global};
+use std::alloc::Global;
 use ubifs_base::{Bytes, Memory};
 
 /// How many of the pages that n bytes from a place of a file on touch aren't dirty: as many credits does a write take.
@@ -56,7 +55,7 @@ pub fn write<B: Backing>(
     backing: &mut B,
     kept: &mut Kept,
     ino: u32,
-    inode: &Inode,
+    inode: Inode,
     size: u64,
     offs: u64,
     n: u32,
@@ -65,15 +64,15 @@ pub fn write<B: Backing>(
 ) -> Result<(), StoreFault>
     requires kept { IsKept (B.state backing.old).tree kept.old }
     requires paid { length kept.old.pages.dirty + newly_dirty kept.old.pages.dirty ino offs n ≤ (B.state backing.old).space.credits }
-    requires present { inode_at (present (B.state backing.old).tree kept.old).tree ino ≡ Some inode.now }
-    requires file { inode.now.kind ≡ File }
-    requires size { size ≡ size_of (present (B.state backing.old).tree kept.old).tree ino inode.now }
+    requires present { inode_at (present (B.state backing.old).tree kept.old).tree ino ≡ Some inode }
+    requires file { inode.kind ≡ File }
+    requires size { size ≡ size_of (present (B.state backing.old).tree kept.old).tree ino inode }
     requires some { 0 < n }
     requires range { offs + n ≤ 2 ^ 41 }
     ensures kept { IsKept (B.state backing.new).tree kept.new }
     ensures paid { length kept.new.pages.dirty ≤ (B.state backing.new).space.credits }
     ensures written { OnOk result (present (B.state backing.new).tree kept.new
-        ≡ record (present (B.state backing.old).tree kept.old) { tree = tree_written (present (B.state backing.old).tree kept.old).tree ino inode.now now offs n byte }) }
+        ≡ record (present (B.state backing.old).tree kept.old) { tree = tree_written (present (B.state backing.old).tree kept.old).tree ino inode now offs n byte }) }
     ensures count { OnOk result (length kept.new.pages.dirty ≡ length kept.old.pages.dirty + newly_dirty kept.old.pages.dirty ino offs n) }
     ensures err { OnErr result (present (B.state backing.new).tree kept.new ≡ present (B.state backing.old).tree kept.old) }
     ensures dirty { OnErr result (kept.new.pages.dirty ≡ kept.old.pages.dirty) }
@@ -86,20 +85,20 @@ pub fn write<B: Backing>(
     // Its proof knows from this that no page is dirty twice.
     let _dirty = kept.pages.dirty();
     let pages = written_pages(alloc, backing, kept, ino, offs, n, byte)?;
-    let inode = written_inode(inode, size.max(offs + n as u64), now)?;
+    let inode = written_inode(inode, size.max(offs + n as u64), now);
     keep(alloc, kept, ino, inode, pages)?;
     Ok(())
 }
 
 // An inode of this size that was changed at this moment.
-fn written_inode(inode: &Inode, size: u64, now: u64) -> Result<Inode, AllocError>
-    ensures { IfOk result (λ new. new ≡ touched now (record inode.now { size = size })) }
+fn written_inode(inode: Inode, size: u64, now: u64) -> Inode
+    ensures { result ≡ touched now (record inode { size = size }) }
 {
-    let mut new = copy_of(inode)?;
+    let mut new = inode;
     new.size = size;
     new.mtime = now;
     new.ctime = now;
-    Ok(new)
+    new
 }
 
 // Keeps an inode and its pages, both or neither.

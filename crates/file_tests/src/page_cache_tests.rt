@@ -44,6 +44,17 @@ fn dirty_byte(cache: &Cache, ino: u32, block: u32) -> (u64, u8) {
     }
 }
 
+// The first byte that a page had which was given another one, or 0.
+fn exchanged_byte(cache: &mut Cache, ticket: &Ticket, page: Bytes) -> u64 {
+    match cache.exchange(ticket, page) {
+        Some(old) => match old.as_slice().first() {
+            Some(byte) => *byte as u64,
+            None => 0,
+        },
+        None => 0,
+    }
+}
+
 // The ticket of an inode's dirty page at a place of their order.
 fn nth_ticket(
     alloc: Global,
@@ -86,8 +97,9 @@ fn told(ticket: Option<Ticket>) -> (u32, u32, u64) {
 }
 
 // One call: `d` and `c` put a dirty and a clean page, of one byte; `g` gets a page's byte, `v` the version and the byte of
-// a dirty one; `m` marks the page of a ticket clean, `x` cuts an inode from a block on, `w` marks all of it clean; `n` is
-// the number of dirty pages; `o` the oldest ticket, `f` the first of an inode, and `t` the one at the place `block`.
+// a dirty one; `e` gives the page of a ticket the byte 9, `m` marks it clean, `x` cuts an inode from a block on, `w` marks
+// all of it clean; `n` is the number of dirty pages; `o` the oldest ticket, `f` the first of an inode, and `t` the one at
+// the place `block`.
 fn answer(
     alloc: Global,
     cache: &mut Cache,
@@ -115,6 +127,7 @@ fn answer(
             cache.mark_clean(&ticket_of(ino, block, number as u64)) as u64,
         ),
         b'x' => (0, 0, cache.cut(ino, block)),
+        b'e' => (0, 0, exchanged_byte(cache, &ticket_of(ino, block, number as u64), page_of(alloc, 9)?)),
         b'w' => {
             clean_all(cache, ino);
             (0, 0, 0)
@@ -184,8 +197,12 @@ const ROWS: &[(u8, (u32, u32, u8), (u32, u32, u64))] = &[
     (b'o', (0, 0, 0), (70, 1, 9)),
     (b'd', (70, 1, 5), (0, 0, 0)),
     (b'm', (70, 1, 9), (0, 0, 0)),
+    (b'e', (70, 1, 9), (0, 0, 0)),
+    (b'e', (70, 1, 10), (0, 0, 5)),
+    (b'v', (70, 1, 0), (9, 0, 10)),
+    (b'd', (70, 1, 5), (0, 0, 0)),
     (b'x', (70, 2, 0), (0, 0, 0)),
-    (b'v', (70, 1, 0), (5, 0, 10)),
+    (b'v', (70, 1, 0), (5, 0, 11)),
     (b'x', (70, 1, 0), (0, 0, 1)),
     (b'n', (70, 1, 0), (0, 0, 0)),
 ];

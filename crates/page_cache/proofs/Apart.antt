@@ -133,6 +133,12 @@ module _ (dirty : List ((ℕ × ℕ) × DirtyPage)) (clean : List ((ℕ × ℕ) 
   pub apart_used : (name : ℕ × ℕ) → AreApart dirty (promoted (is_page name) clean)
   apart_used name ino block is = absent_promoted (is_page (ino, block)) (is_page name) clean (apart ino block is)
 
+  -- after a page was given another value
+  pub apart_set : (name : ℕ × ℕ) (page : DirtyPage) → AreApart (set_value (is_page name) dirty page) clean
+  apart_set name page ino block is =
+      let q : ℕ × ℕ = (ino, block) in
+      apart ino block (before_now (is_some (lookup (is_page q) dirty)) (is_some (lookup (is_page q) (set_value (is_page name) dirty page))) (absent_set (is_page q) (is_page name) dirty page) is)
+
   -- after a page is dirty no longer
   pub apart_without : (name : ℕ × ℕ) → AreApart (remove_entry (is_page name) dirty) clean
   apart_without name ino block is =

@@ -1,7 +1,9 @@
 -- The versions of dirty pages are counted.
-use Rattle.std.proofs.Common.{ℕ, ◌≤◌, Bool, true, false, cond, not, List, [], ◌∷◌, ◌++◌, is_some, arith}
-use Rattle.std.specs.Prelude.{All, filter}
+use Rattle.std.proofs.Common.{ℕ, ◌≤◌, Bool, true, false, cond, not, List, [], ◌∷◌, ◌++◌, is_some, Some, ◌≡◌, arith}
+use Rattle.std.specs.Prelude.{All, filter, ◌==◌}
+use Rattle.std.specs.Option.{option_map_or}
 use Rattle.std.specs.Map.{values_of, lookup, remove_entry, set_value}
+use Rattle.std.proofs.lemmas.Bool.{eqb-true, false≢true}
 use Rattle.std.proofs.lemmas.List.Elements.{All-nil, All-cons, All-head, All-tail, All-weaker}
 use Rattle.std.proofs.lemmas.Map.Views.{All-values-set_value, All-map-remove_entry}
 use Rattle.page_cache.specs.declared.dirty_page.DirtyPage.{DirtyPage}
@@ -21,6 +23,19 @@ module _ (P : DirtyPage → Type 0) where
         | false ↦ rest
       ]
 
+-- the version of a page is one of those that are counted
+version_counted : (es : List ((ℕ × ℕ) × DirtyPage)) (calls : ℕ) (name : ℕ × ℕ) (version : ℕ) → AreCounted calls es
+    → option_map_or (λ (page : DirtyPage). page.version == version) (lookup (is_page name) es) false ≡ true → version ≤ calls
+version_counted [] calls name version all is = absurd (false≢true is)
+version_counted (e ∷ es) calls name version all is =
+    let P : DirtyPage → Type 0 = λ page. page.version ≤ calls in
+    by (is_page name e.0) (version_counted es calls name version (All-tail P e.1 (values_of es) all)) (All-head P e.1 (values_of es) all) is
+  where
+    by : (b : Bool) → (option_map_or (λ (page : DirtyPage). page.version == version) (lookup (is_page name) es) false ≡ true → version ≤ calls) → e.1.version ≤ calls
+        → option_map_or (λ (page : DirtyPage). page.version == version) (cond b (Some e.1) (lookup (is_page name) es)) false ≡ true → version ≤ calls
+    by true rest one is = omega (arith, one, eqb-true e.1.version version is)
+    by false rest one is = rest is
+
 module _ (dirty : List ((ℕ × ℕ) × DirtyPage)) (calls : ℕ) (all : AreCounted calls dirty) where
   -- after a page was put as dirty
   pub counted_dirty : (name : ℕ × ℕ) (page : DirtyPage) (more : ℕ) → calls ≤ more → page.version ≤ more → AreCounted more (put_last dirty name page)
@@ -31,6 +46,11 @@ module _ (dirty : List ((ℕ × ℕ) × DirtyPage)) (calls : ℕ) (all : AreCoun
         | true ↦ All-values-set_value (is_page name) P dirty page was one
         | false ↦ all_added P dirty (name, page) was one
       ]
+
+  -- after a page was given other bytes
+  pub counted_exchanged : (name : ℕ × ℕ) (page : DirtyPage) → option_map_or (λ (old : DirtyPage). old.version == page.version) (lookup (is_page name) dirty) false ≡ true
+      → AreCounted calls (set_value (is_page name) dirty page)
+  counted_exchanged name page is = All-values-set_value (is_page name) (λ (q : DirtyPage). q.version ≤ calls) dirty page all (version_counted dirty calls name page.version all is)
 
   -- after a page is dirty no longer
   pub counted_without : (name : ℕ × ℕ) → AreCounted calls (remove_entry (is_page name) dirty)

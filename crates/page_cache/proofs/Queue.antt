@@ -1,16 +1,17 @@
 -- What holds of pages and places holds after each change of them.
-use Rattle.std.proofs.Common.{◌≡◌, ℕ, ◌+◌, ◌*◌, ◌<◌, ◌≤◌, ◌||◌, Bool, true, false, cond, not, List, [], ◌∷◌, ◌++◌, filter, length, take, drop, map, is_some, IsSome, IfSome, Option, Some, None, refl, sym, ap, subst, ◌∙◌, arith, append-nil, length-append}
+use Rattle.std.proofs.Common.{◌≡◌, ℕ, ◌+◌, ◌*◌, ◌<◌, ◌≤◌, ◌||◌, ◌==◌, Bool, true, false, cond, not, List, [], ◌∷◌, ◌++◌, filter, length, take, drop, map, is_some, IsSome, IsNone, IfSome, Option, Some, None, refl, sym, ap, subst, ◌∙◌, arith, append-nil, length-append}
 use Rattle.std.specs.List.{AllByRecursion, IsDistinct, list_any}
 use Rattle.std.specs.Map.{keys_of, lookup, remove_entry, set_value}
 use Rattle.std.specs.Option.{option_map, option_map_or}
 use Rattle.std.specs.HashMap.{HashMap}
-use Rattle.std.proofs.lemmas.Bool.{false≢true}
+use Rattle.std.proofs.lemmas.Bool.{eqb-true, false≢true}
 use Rattle.std.proofs.lemmas.List.{map-append, take-append-le}
-use Rattle.std.proofs.lemmas.Map.{keys-set_value, lookup-set_value, lookup-remove_entry}
+use Rattle.std.proofs.lemmas.Map.{keys-set_value, length-set_value, lookup-set_value, lookup-remove_entry}
 use Rattle.std.proofs.lemmas.Map.Entries.{lookup-filter-keys, length-keys_of}
 use Rattle.std.proofs.lemmas.Map.Keys.{IsDistinct-head, IsDistinct-tail, IsDistinct-cons, IsDistinct-push}
 use Rattle.std.proofs.lemmas.Map.Lookups.{hash_map_len_from_get}
 use Rattle.std.proofs.lemmas.Map.Made.{is_some-lookup, lookup-map_values, keys_of-map_values, IsDistinct-keys_filter}
+use Rattle.std.proofs.lemmas.Map.Steps.{set_value_same}
 use Rattle.indexmap.specs.Layout.{hash_map}
 use Rattle.page_cache.specs.declared.dirty_page.DirtyPage.{DirtyPage}
 use Rattle.page_cache.specs.declared.place.Place.{Place}
@@ -102,6 +103,10 @@ cut_counted {V} (e ∷ es) ino from = by (is_cut ino from e.0) (cut_counted es i
     by true rest = omega (arith, rest)
     by false rest = omega (arith, rest)
 
+-- of a name whose page was taken out there is none
+pub gone_now : (pages now : ByName) (name : ℕ × ℕ) → IsChangedAt name None pages now → IsNone (lookup (is_page name) now)
+gone_now pages now name changes = ap is_some (changes name ∙ ap (λ b. cond b None (lookup (is_page name) pages)) (is_page_laws.refl name))
+
 -- as many pages stand in the order as there are
 pub as_many : (pages : ByName) (places : List Place) (next : ℕ) → IsOrdered pages places next → IsDistinct is_page (keys_of pages) → length pages ≡ length (pages_by_place pages places)
 as_many pages places next queue unique =
@@ -189,6 +194,60 @@ module _ (pages : ByName) (places : List Place) (next : ℕ) (queue : IsOrdered 
       by None at (Some r) found back =
           let none : lookup (is_page name) (pages_by_place pages places) ≡ None = queue.placed name ∙ ap (option_map page_in) at in
           (subst (λ ps. IsOrdered ps places next) (sym back.1) queue, ap (λ ps. pages_by_place ps places) back.1 ∙ sym (set_absent (is_page name) (pages_by_place pages places) page none))
+
+  -- a page was given other bytes, if it has this version
+  module _ (name : ℕ × ℕ) (version : ℕ) (bytes : List ℕ) (now : ByName)
+      (set : (placed : Placed) → lookup (is_page name) pages ≡ Some placed → placed.page.version ≡ version → IsChangedAt name (Some (record { page = record { bytes = bytes; version = version }; place = placed.place })) pages now)
+      (kept : (placed : Placed) → lookup (is_page name) pages ≡ Some placed → (placed.page.version == version) ≡ false → IsChangedAt name (Some placed) pages now)
+      (none : IsNone (lookup (is_page name) pages) → now ≡ pages) where
+    abbrev new_page : DirtyPage
+    new_page = record { bytes = bytes; version = version }
+
+    abbrev order : List ((ℕ × ℕ) × DirtyPage)
+    order = pages_by_place pages places
+
+    abbrev is_at_version : Option DirtyPage → Bool
+    is_at_version o = option_map_or (λ (page : DirtyPage). page.version == version) o false
+
+    pub record Exchanged : Type 0 where
+      pub ordered : IsOrdered now places next
+      pub made : pages_by_place now places ≡ cond (is_at_version (lookup (is_page name) order)) (set_value (is_page name) order new_page) order
+      pub long : length (pages_by_place now places) ≡ length order
+
+    by_version : (placed : Placed) → lookup (is_page name) pages ≡ Some placed → (b : Bool) → (placed.page.version == version) ≡ b → Exchanged
+    by_version placed at true t =
+        let changes = set placed at (eqb-true placed.page.version version t) in
+        let there : lookup (is_page name) order ≡ Some placed.page = queue.placed name ∙ ap (option_map page_in) at in
+        let is = order_set pages now name placed new_page at changes places queue.once in
+        record {
+          ordered = queue_set name placed new_page now at changes;
+          made = is ∙ sym (ap (λ o. cond (is_at_version o) (set_value (is_page name) order new_page) order) there ∙ ap (λ b. cond b (set_value (is_page name) order new_page) order) t);
+          long = ap length is ∙ length-set_value (is_page name) order new_page;
+        }
+    by_version placed at false t =
+        let changes = kept placed at t in
+        let there : lookup (is_page name) order ≡ Some placed.page = queue.placed name ∙ ap (option_map page_in) at in
+        let is = order_set pages now name placed placed.page at changes places queue.once ∙ set_value_same (is_page name) order placed.page there in
+        record {
+          ordered = queue_set name placed placed.page now at changes;
+          made = is ∙ sym (ap (λ o. cond (is_at_version o) (set_value (is_page name) order new_page) order) there ∙ ap (λ b. cond b (set_value (is_page name) order new_page) order) t);
+          long = ap length is;
+        }
+
+    by_name : (o : Option Placed) → lookup (is_page name) pages ≡ o → Exchanged
+    by_name (Some placed) at = by_version placed at (placed.page.version == version) refl
+    by_name None at =
+        let same = none (ap is_some at) in
+        let there : lookup (is_page name) order ≡ None = queue.placed name ∙ ap (option_map page_in) at in
+        let is = ap (λ ps. pages_by_place ps places) same in
+        record {
+          ordered = subst (λ ps. IsOrdered ps places next) (sym same) queue;
+          made = is ∙ sym (ap (λ o. cond (is_at_version o) (set_value (is_page name) order new_page) order) there);
+          long = ap length is;
+        }
+
+    pub exchanged : Exchanged
+    exchanged = by_name (lookup (is_page name) pages) refl
 
   -- with a new page at a new place
   module _ (place : Place) (page : DirtyPage) (now : ByName) (is : place.number ≡ next) (none : lookup (is_page place.name) (pages_by_place pages places) ≡ None)

@@ -138,6 +138,16 @@ abbrev pub without_dirty : Pages → ℕ → ℕ → Pages
 without_dirty pages ino block =
     record { dirty = remove_entry (is_page (ino, block)) pages.dirty; clean = pages.clean; most = pages.most; calls = pages.calls }
 
+-- with these bytes of a ticket's page, which has its place and the ticket's version
+abbrev pub with_bytes : Pages → Ticket → List ℕ → Pages
+with_bytes pages ticket bytes =
+    record {
+      dirty = set_value (is_page (ticket.ino, ticket.block)) pages.dirty (record { bytes = bytes; version = ticket.version });
+      clean = pages.clean;
+      most = pages.most;
+      calls = pages.calls;
+    }
+
 -- whether a page is of this inode and has this block's number or a greater one
 abbrev pub is_cut : ℕ → ℕ → ℕ × ℕ → Bool
 is_cut ino from name = (name.0 == ino) && nat_le from name.1

@@ -1,9 +1,9 @@
 // The pages that are kept in memory.
 
-ghost use Rattle.std.specs.Prelude.{◌≡◌, ◌<◌, ℕ, List, ◌++◌, not, [], IfOk, OnOk, OnErr, IsOk, is_some, IsSome, IsNone, length, slice_get, take, if◌then◌else◌};
+ghost use Rattle.std.specs.Prelude.{◌≡◌, ◌<◌, None, ℕ, List, ◌++◌, not, [], IfOk, OnOk, OnErr, IsOk, is_some, IsSome, IsNone, length, slice_get, take, if◌then◌else◌};
 ghost use Rattle.std.specs.List.{AllByRecursion};
 ghost use Rattle.std.specs.Option.{option_copied, option_map};
-ghost use Rattle.page_cache.specs.Pages.{IsCache, dirty_at, bytes_at, with_dirty, with_all_dirty, new_pages, old_pages, with_clean, with_used, IsTakenBack, oldest_of, next_of, ticket_of, tickets_of, is_current, without_dirty, without_cut, cut_count};
+ghost use Rattle.page_cache.specs.Pages.{IsCache, dirty_at, bytes_at, with_dirty, with_all_dirty, new_pages, old_pages, with_clean, with_used, with_bytes, IsTakenBack, oldest_of, next_of, ticket_of, tickets_of, is_current, without_dirty, without_cut, cut_count};
 
 use crate::dirty_page::DirtyPage;
 use crate::dirty_queue::DirtyQueue;
@@ -288,6 +288,16 @@ impl Cache {
     {
         self.dirty
             .remove((ticket.ino, ticket.block), ticket.version)
+    }
+
+    /// Gives a ticket's page these bytes if it has the ticket's version still, and answers the bytes that it had. It stays
+    /// dirty, at its place and with its version. Takes no memory.
+    pub fn exchange(&mut self, ticket: &Ticket, bytes: Bytes) -> Option<Bytes>
+        ensures bytes { result ≡ (if is_current self.old ticket.now then option_map (λ page. page.bytes) (dirty_at self.old ticket.now.ino ticket.now.block) else None) }
+        ensures pages { self.new ≡ (if is_current self.old ticket.now then with_bytes self.old ticket.now bytes else self.old) }
+    {
+        self.dirty
+            .exchange((ticket.ino, ticket.block), ticket.version, bytes)
     }
 
     /// Whether a ticket's page is dirty and has the ticket's version. Takes no memory.

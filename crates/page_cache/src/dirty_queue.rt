@@ -1,6 +1,6 @@
 // Dirty pages, in the order in which they became dirty.
 
-ghost use Rattle.std.specs.Prelude.{◌≡◌, ◌==◌, if◌then◌else◌, false, not, filter, [], ◌++◌, ◌∷◌, IfOk, OnOk, OnErr, IsOk, IfSome, is_some, IsSome, IsNone, length, map, slice_get, take};
+ghost use Rattle.std.specs.Prelude.{◌≡◌, ◌==◌, None, if◌then◌else◌, false, not, filter, [], ◌++◌, ◌∷◌, IfOk, OnOk, OnErr, IsOk, IfSome, is_some, IsSome, IsNone, length, map, slice_get, take};
 ghost use Rattle.std.specs.List.{IsDistinct, list_any};
 ghost use Rattle.std.specs.Option.{option_map, option_map_or, option_copied};
 ghost use Rattle.std.specs.Map.{keys_of, lookup, remove_entry, set_value};
@@ -9,14 +9,15 @@ ghost use Rattle.page_cache.specs.Pages.{is_page, is_cut, pages_of, put_last, cu
 use crate::dirty_page::DirtyPage;
 use crate::place::{Place, Placed, is_within};
 use crate::places::{
-    add_page, first, first_of, page_placed, set_page, take_page, tickets_of, tidy,
+    add_page, exchange_bytes, first, first_of, leave_front, page_placed, set_page, take_page,
+    tickets_of, tidy,
 };
 use crate::ticket::Ticket;
 use indexmap::IndexMap;
 use std::alloc::{AllocError, Global};
 use std::collections::VecDeque;
 use std::marker::Model;
-use ubifs_base::Memory;
+use ubifs_base::{Bytes, Memory};
 
 /// Dirty pages, of which contracts see the list from the one that became dirty first on.
 #[derive(Drop)]
@@ -147,9 +148,19 @@ impl DirtyQueue {
     {
         let current = take_page(&mut self.pages, name, version);
         if current {
+            leave_front(&mut self.places, name);
             tidy(&self.pages, &mut self.places);
         }
         current
+    }
+
+    /// Gives the page of a name these bytes if it has this version, and answers those that it had. It keeps its place and its
+    /// version. Takes no memory.
+    pub(crate) fn exchange(&mut self, name: (u32, u32), version: u64, bytes: Bytes) -> Option<Bytes>
+        ensures bytes { result ≡ (if option_map_or (λ page. page.version == version) (lookup (is_page name) self.old) false then option_map (λ page. page.bytes) (lookup (is_page name) self.old) else None) }
+        ensures pages { self.new ≡ (if option_map_or (λ page. page.version == version) (lookup (is_page name) self.old) false then set_value (is_page name) self.old (record { bytes = bytes; version = version }) else self.old) }
+    {
+        exchange_bytes(&mut self.pages, name, version, bytes)
     }
 
     /// Takes out the pages behind so many from the front on. Takes no memory.

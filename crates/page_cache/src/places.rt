@@ -1,6 +1,6 @@
 // Dirty pages by name, and their places in the order in which they became dirty.
 
-ghost use Rattle.std.specs.Prelude.{◌≡◌, ◌<◌, ◌==◌, None, ℕ, false, not, List, length, IsTrue, ◌++◌, [], ◌∷◌, Some, IfOk, OnOk, OnErr, IfSome, is_some, map, slice_get, filter};
+ghost use Rattle.std.specs.Prelude.{◌≡◌, ◌<◌, ◌==◌, None, IsNone, if◌then◌else◌, ℕ, false, not, List, length, IsTrue, ◌++◌, [], ◌∷◌, Some, IfOk, OnOk, OnErr, IfSome, is_some, map, slice_get, filter};
 ghost use Rattle.std.specs.Option.{option_map, option_map_or, option_copied};
 ghost use Rattle.std.specs.Map.{lookup};
 ghost use Rattle.page_cache.specs.declared.place.Placed.{Placed};
@@ -14,7 +14,8 @@ use crate::ticket::{Ticket, ticket_of};
 use indexmap::IndexMap;
 use std::alloc::{AllocError, Global};
 use std::collections::VecDeque;
-use ubifs_base::Memory;
+use std::mem::replace;
+use ubifs_base::{Bytes, Memory};
 
 /// The page of a place, unless it left the place.
 pub(crate) fn page_placed<'a>(
@@ -108,6 +109,30 @@ pub(crate) fn set_page(
     }
 }
 
+/// Gives the page of a name these bytes if it has this version, and answers those that it had.
+pub(crate) fn exchange_bytes(
+    pages: &mut IndexMap<(u32, u32), Placed>,
+    name: (u32, u32),
+    version: u64,
+    bytes: Bytes,
+) -> Option<Bytes>
+    ensures bytes { result ≡ (if option_map_or (λ placed. placed.page.version == version) (lookup (is_page name) pages.old.entries) false then option_map (λ placed. placed.page.bytes) (lookup (is_page name) pages.old.entries) else None) }
+    ensures set { (placed : Placed) → lookup (is_page name) pages.old.entries ≡ Some placed → placed.page.version ≡ version → IsChangedAt name (Some (record { page = record { bytes = bytes; version = version }; place = placed.place })) pages.old.entries pages.new.entries }
+    ensures kept { (placed : Placed) → lookup (is_page name) pages.old.entries ≡ Some placed → (placed.page.version == version) ≡ false → IsChangedAt name (Some placed) pages.old.entries pages.new.entries }
+    ensures none { IsNone (lookup (is_page name) pages.old.entries) → pages.new.entries ≡ pages.old.entries }
+{
+    match pages.get_mut(&name) {
+        Some(placed) => {
+            if placed.page.version == version {
+                Some(replace(&mut placed.page.bytes, bytes))
+            } else {
+                None
+            }
+        }
+        None => None,
+    }
+}
+
 /// Adds a page of a new name at a new place, behind all others. Where there is no memory all is as it was.
 pub(crate) fn add_page(
     pages: &mut IndexMap<(u32, u32), Placed>,
@@ -149,6 +174,27 @@ pub(crate) fn take_page(
             }
             current
         }
+        None => false,
+    }
+}
+
+/// Takes the place at the front away if it is of this name, of which there is no page.
+pub(crate) fn leave_front(places: &mut VecDeque<Place>, name: (u32, u32))
+    ensures order { (pages : List ((ℕ × ℕ) × Placed)) → IsNone (lookup (is_page name) pages) → pages_by_place pages places.new.items ≡ pages_by_place pages places.old.items }
+    ensures below { (next : ℕ) → ArePlacesBelow next places.old.items → ArePlacesBelow next places.new.items }
+{
+    if is_front_of(places, name) {
+        places.pop_front();
+    }
+}
+
+// Whether the place at the front is of this name.
+fn is_front_of(places: &VecDeque<Place>, name: (u32, u32)) -> bool
+    ensures some { IsTrue result → 0 < length places.now.items }
+    ensures named { IsTrue result → (first : Place) (rest : List Place) → places.now.items ≡ first ∷ rest → first.name ≡ name }
+{
+    match places.front() {
+        Some(place) => place.name == name,
         None => false,
     }
 }

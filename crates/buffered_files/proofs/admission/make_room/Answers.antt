@@ -1,4 +1,4 @@
-use Rattle.std.proofs.Common.{◌+◌, ◌*◌, arith, length, rules}
+use Rattle.std.proofs.Common.{◌+◌, ◌*◌, arith, length}
 use Rattle.buffered_files.proofs.Cutting.{nothing_then}
 use Rattle.buffered_files.proofs.Growing.{none_put}
 use Rattle.buffered_files.proofs.MakingRoom.{on_ok, all_put}

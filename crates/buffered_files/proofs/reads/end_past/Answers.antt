@@ -1,4 +1,4 @@
-use Rattle.std.proofs.Common.{◌≡◌, ℕ, ◌*◌, ◌+◌, length, max, min, refl, sym, subst, ◌∙◌, arith}
+use Rattle.std.proofs.Common.{◌≡◌, length, min, refl, sym, subst, ◌∙◌, arith}
 use Rattle.fs_model.specs.Files.{Tree, block_at}
 use Rattle.buffered_files.proofs.Ends.{found_end, no_end}
 use Rattle.buffered_files.specs.CallLaws.{Goes-then}

@@ -1,4 +1,4 @@
-use Rattle.std.proofs.Common.{arith, ap, ◌∙◌}
+use Rattle.std.proofs.Common.{arith, ◌∙◌}
 use Rattle.buffered_files.proofs.Reading.{seen, seen_short}
 use Rattle.buffered_files.proofs.WholePage.{whole_written}
 use Rattle.buffered_files.proofs.written_pages.written_page.Goals as goal
