@@ -127,7 +127,15 @@ fn answer(
             cache.mark_clean(&ticket_of(ino, block, number as u64)) as u64,
         ),
         b'x' => (0, 0, cache.cut(ino, block)),
-        b'e' => (0, 0, exchanged_byte(cache, &ticket_of(ino, block, number as u64), page_of(alloc, 9)?)),
+        b'e' => (
+            0,
+            0,
+            exchanged_byte(
+                cache,
+                &ticket_of(ino, block, number as u64),
+                page_of(alloc, 9)?,
+            ),
+        ),
         b'w' => {
             clean_all(cache, ino);
             (0, 0, 0)

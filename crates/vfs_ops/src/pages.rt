@@ -128,8 +128,7 @@ fn put_open<B: Backing>(alloc: Global, backing: &mut B, kept: &mut Kept, page: &
         version: page.version,
     };
     present_files_are_sound();
-    let mut room = Vec::new(alloc);
-    match put_ticket(backing, kept, &ticket, &mut room) {
+    match put_ticket(alloc, backing, kept, &ticket) {
         Ok(_) => Outcome::PutDone,
         Err(fault) => Outcome::Fault { fault },
     }

@@ -263,7 +263,7 @@ fn write_covered<B: Backing>(
     ensures looks { Looks (B.outlook backing.old) (B.outlook backing.new) (B.state backing.old) (B.state backing.new) }
 {
     match inode(backing, kept, ino)? {
-        Some(inode) => write_at(alloc, backing, kept, ino, &inode, now, offs, len, byte),
+        Some(inode) => write_at(alloc, backing, kept, ino, inode, now, offs, len, byte),
         None => Err(Refusal::Ebadf),
     }
 }
@@ -274,7 +274,7 @@ fn write_at<B: Backing>(
     backing: &mut B,
     kept: &mut Kept,
     ino: u32,
-    inode: &Inode,
+    inode: Inode,
     now: u64,
     offs: u64,
     len: u32,
@@ -282,20 +282,20 @@ fn write_at<B: Backing>(
 ) -> Result<(), Refusal>
     requires kept { IsKept (B.state backing.old).tree kept.old }
     requires paid { length kept.old.pages.dirty + newly_dirty kept.old.pages.dirty ino offs len ≤ (B.state backing.old).space.credits }
-    requires present { inode_at (present (B.state backing.old).tree kept.old).tree ino ≡ Some inode.now }
-    requires file { inode.now.kind ≡ File }
+    requires present { inode_at (present (B.state backing.old).tree kept.old).tree ino ≡ Some inode }
+    requires file { inode.kind ≡ File }
     requires some { 0 < len }
     requires range { offs + len ≤ 2 ^ 41 }
     ensures kept { IsKept (B.state backing.new).tree kept.new }
     ensures written { OnOk result (present (B.state backing.new).tree kept.new
-        ≡ record (present (B.state backing.old).tree kept.old) { tree = tree_written (present (B.state backing.old).tree kept.old).tree ino inode.now now offs len byte }) }
+        ≡ record (present (B.state backing.old).tree kept.old) { tree = tree_written (present (B.state backing.old).tree kept.old).tree ino inode now offs len byte }) }
     ensures count { OnOk result (length kept.new.pages.dirty ≡ length kept.old.pages.dirty + newly_dirty kept.old.pages.dirty ino offs len) }
     ensures same { OnErr result (present (B.state backing.new).tree kept.new ≡ present (B.state backing.old).tree kept.old) }
     ensures dirty { OnErr result (kept.new.pages.dirty ≡ kept.old.pages.dirty) }
     ensures refused { IfErr result (IsFault (B.state backing.old) (B.state backing.new)) }
     ensures looks { Looks (B.outlook backing.old) (B.outlook backing.new) (B.state backing.old) (B.state backing.new) }
 {
-    let size = size(backing, kept, ino, inode)?;
+    let size = size(backing, kept, ino, &inode)?;
     write_pages(alloc, backing, kept, ino, inode, size, offs, len, byte, now)?;
     Ok(())
 }
