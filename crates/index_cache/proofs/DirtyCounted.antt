@@ -1,11 +1,7 @@
 -- The numbers of dirty nodes, up to a most.
-use Rattle.std.proofs.Common.{◌≡◌, ℕ, ◌+◌, ◌≤◌, List, [], ◌∷◌, ◌++◌, length, refl, ap, sym, ◌∙◌, arith, length-append, append-nil}
-use Rattle.std.specs.Prelude.{Option, None, Some, min, slice_get, unwrap_or}
-use Rattle.ubifs_base.specs.declared.key.Key.{Key}
-use Rattle.index_tree.specs.Shape.{node, done, node_count}
-use Rattle.index_media.specs.KeyedRow.{KeyedRow, no_more, bare}
+use Rattle.std.proofs.Common.{◌≡◌, ℕ, ◌+◌, List, [], ◌∷◌, ◌++◌, length, refl, ap, sym, ◌∙◌, arith, length-append, append-nil}
+use Rattle.std.specs.Prelude.{min, slice_get, unwrap_or}
 use Rattle.node_table.specs.Dirty.{dirty_among}
-use Rattle.table_nodes.specs.NodeView.{NodeView, node_before, row_of, children_in}
 use Rattle.table_nodes.specs.declared.link.Link.{Link}
 use Rattle.table_nodes.specs.declared.link.Link.TheVariants.{ToLeaf, ToNode}
 

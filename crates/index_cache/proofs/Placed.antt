@@ -7,7 +7,6 @@ use Rattle.ubifs_base.specs.Key.{IsKey}
 use Rattle.index_tree.specs.Levels.{levelled}
 use Rattle.index_tree.specs.Shape.{Shape, done, node, fits}
 use Rattle.media_sys.specs.declared.branch.Branch.{Branch}
-use Rattle.index_media.specs.Clean.{is_clean_row}
 use Rattle.index_media.specs.InsertionLaws.{clean_bare}
 use Rattle.index_media.specs.InsertionSound.{AreKeys}
 use Rattle.index_media.specs.KeyedRow.{no_more, all_clean}

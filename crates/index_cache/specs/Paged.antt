@@ -6,7 +6,9 @@ use Rattle.node_table.specs.Dirty.{dirty_below}
 use Rattle.table_nodes.specs.NodeView.{tree_at, leaves_at}
 use Rattle.table_nodes.specs.Links.{AreNodesAdded}
 use Rattle.node_table.specs.Staging.{IsSoundRoot}
+use Rattle.node_table.specs.Unloaded.{DoesRootStand}
 use Rattle.table_nodes.specs.declared.node.Root.{Root}
+use Rattle.ubi_volume.specs.Volume.{VolumeState}
 use Rattle.index_cache.specs.declared.paged.PagedIndex.{PagedIndex}
 
 -- its shape, with the keys of branches, and with places where nodes are clean
@@ -16,6 +18,10 @@ keyed_tree_of index = tree_at index.table.nodes.items index.root
 -- its leaves from left to right
 abbrev pub leaves_of : PagedIndex → List Leaf
 leaves_of index = leaves_at index.table.nodes.items index.root
+
+-- nodes of the index that aren't loaded stand on a volume where they were met
+abbrev pub DoesIndexStand : VolumeState → PagedIndex → Type 0
+DoesIndexStand state index = DoesRootStand state index.table.nodes.items index.root
 
 -- the index that a commit writes: that of its last freeze, with the places that its nodes have got since
 abbrev pub frozen_of : PagedIndex → KeyedRow

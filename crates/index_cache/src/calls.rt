@@ -11,19 +11,23 @@ ghost use Rattle.index_tree.specs.RangeRemoval.{within_range, outside_range};
 ghost use Rattle.index_tree.specs.Removal.{holds, without};
 ghost use Rattle.index_tree.specs.Replacement.{swapped};
 ghost use Rattle.index_tree.specs.Shape.{fits, node_count, shape_weight};
+ghost use Rattle.node_cache.specs.Kept.{AreKept};
+ghost use Rattle.node_cache.specs.Loaded.{IsReadOnlyCall};
 ghost use Rattle.node_table.specs.Changing.{IsChange, AreChanges, changed_row, changed_by, leaves_after_change, leaves_after_all};
 ghost use Rattle.node_table.specs.Exchange.{tree_without};
 ghost use Rattle.table_nodes.specs.NodeView.{tree_at, leaves_at};
 ghost use Rattle.node_table.specs.Staging.{IsSoundRoot};
 ghost use Rattle.ubifs_base.specs.Key.{IsKey};
-ghost use Rattle.index_cache.specs.Paged.{keyed_tree_of, leaves_of, frozen_of, fanout_of, KeepsNodes};
+ghost use Rattle.index_cache.specs.Paged.{keyed_tree_of, leaves_of, frozen_of, fanout_of, DoesIndexStand, KeepsNodes};
 
 use crate::paged::PagedIndex;
 use index_media::a_range_removal_leaves_the_keys_of_branches;
 use index_tree::Leaf;
+use node_cache::NodeCache;
 use node_table::{Change, NodeTable, TreeCounts, roots_stay};
 use std::alloc::Global;
 use table_nodes::Root;
+use ubi_volume::{AreaFault, Volume};
 use ubifs_base::{Key, Memory};
 
 /// Changes that are made and not yet seen: the root that they make.
@@ -49,45 +53,112 @@ impl PagedIndex {
     }
 
     /// The leaf of this key behind `nth` others of the same key; none where there are too few.
-    pub fn find(&self, key: &Key, nth: u32) -> Option<Leaf>
-        ensures { result ≡ slice_get (of_rank (key_rank key.now) (leaves_of self.now)) nth }
+    ///
+    /// It goes down loaded nodes in memory, and below a node that isn't loaded on the volume, by the nodes that are kept of it. Nothing is
+    /// loaded, and the volume is as it was. What isn't loaded still stands where it was met (`stands`). `Memory` and `Volume` are the
+    /// faults. All of this holds of each look-up.
+    pub fn find<V: Volume>(
+        &self,
+        alloc: Global,
+        volume: &mut V,
+        cache: &mut NodeCache,
+        key: &Key,
+        nth: u32,
+    ) -> Result<Option<Leaf>, AreaFault>
+        requires stands { DoesIndexStand (V.state volume.old) self.now }
+        requires kept { AreKept (V.state volume.old).holds cache.old }
+        ensures found { IfOk result (λ found. found ≡ slice_get (of_rank (key_rank key.now) (leaves_of self.now)) nth) }
+        ensures reads { IsReadOnlyCall (V.state volume.old) (V.state volume.new) result }
+        ensures kept { AreKept (V.state volume.new).holds cache.new }
     {
-        self.table.find(self.root, key, nth)
+        self.table.find(alloc, volume, cache, self.root, key, nth)
     }
 
     /// The first leaf of a greater key; none where there is none.
-    pub fn after(&self, key: &Key) -> Option<Leaf>
-        ensures { result ≡ first_after (key_rank key.now) (leaves_of self.now) }
+    pub fn after<V: Volume>(
+        &self,
+        alloc: Global,
+        volume: &mut V,
+        cache: &mut NodeCache,
+        key: &Key,
+    ) -> Result<Option<Leaf>, AreaFault>
+        requires stands { DoesIndexStand (V.state volume.old) self.now }
+        requires kept { AreKept (V.state volume.old).holds cache.old }
+        ensures found { IfOk result (λ found. found ≡ first_after (key_rank key.now) (leaves_of self.now)) }
+        ensures reads { IsReadOnlyCall (V.state volume.old) (V.state volume.new) result }
+        ensures kept { AreKept (V.state volume.new).holds cache.new }
     {
-        self.table.after(self.root, key)
+        self.table.after(alloc, volume, cache, self.root, key)
     }
 
     /// The greatest block leaf of this inode, the last one of equals; none where it has no block.
-    pub fn last_of(&self, ino: u32) -> Option<Leaf>
-        ensures { result ≡ last_block ino (leaves_of self.now) }
+    pub fn last_of<V: Volume>(
+        &self,
+        alloc: Global,
+        volume: &mut V,
+        cache: &mut NodeCache,
+        ino: u32,
+    ) -> Result<Option<Leaf>, AreaFault>
+        requires stands { DoesIndexStand (V.state volume.old) self.now }
+        requires kept { AreKept (V.state volume.old).holds cache.old }
+        ensures found { IfOk result (λ found. found ≡ last_block ino (leaves_of self.now)) }
+        ensures reads { IsReadOnlyCall (V.state volume.old) (V.state volume.new) result }
+        ensures kept { AreKept (V.state volume.new).holds cache.new }
     {
-        self.table.last_of(self.root, ino)
+        self.table.last_of(alloc, volume, cache, self.root, ino)
     }
 
     /// Whether this leaf, with its key and its place, is there.
-    pub fn holds(&self, leaf: &Leaf) -> bool
-        ensures { result ≡ holds leaf.now (leaves_of self.now) }
+    pub fn holds<V: Volume>(
+        &self,
+        alloc: Global,
+        volume: &mut V,
+        cache: &mut NodeCache,
+        leaf: &Leaf,
+    ) -> Result<bool, AreaFault>
+        requires stands { DoesIndexStand (V.state volume.old) self.now }
+        requires kept { AreKept (V.state volume.old).holds cache.old }
+        ensures found { IfOk result (λ found. found ≡ holds leaf.now (leaves_of self.now)) }
+        ensures reads { IsReadOnlyCall (V.state volume.old) (V.state volume.new) result }
+        ensures kept { AreKept (V.state volume.new).holds cache.new }
     {
-        self.table.holds(self.root, leaf)
+        self.table.holds(alloc, volume, cache, self.root, leaf)
     }
 
     /// The leaves that stand in this LEB, in the order of the index. It looks at all leaves.
-    pub fn leaves_in(&self, alloc: Global, lnum: u32) -> Result<Vec<Leaf>, Memory>
-        ensures { IfOk result (λ leaves. leaves.items ≡ filter (λ x. x.lnum == lnum) (leaves_of self.now)) }
+    pub fn leaves_in<V: Volume>(
+        &self,
+        alloc: Global,
+        volume: &mut V,
+        cache: &mut NodeCache,
+        lnum: u32,
+    ) -> Result<Vec<Leaf>, AreaFault>
+        requires stands { DoesIndexStand (V.state volume.old) self.now }
+        requires kept { AreKept (V.state volume.old).holds cache.old }
+        ensures leaves { IfOk result (λ leaves. leaves.items ≡ filter (λ x. x.lnum == lnum) (leaves_of self.now)) }
+        ensures reads { IsReadOnlyCall (V.state volume.old) (V.state volume.new) result }
+        ensures kept { AreKept (V.state volume.new).holds cache.new }
     {
-        self.table.leaves_in(alloc, self.root, lnum)
+        self.table.leaves_in(alloc, volume, cache, self.root, lnum)
     }
 
     /// The leaves with keys from `from` to `to`, both included, in the order of the index.
-    pub fn leaves_between(&self, alloc: Global, from: &Key, to: &Key) -> Result<Vec<Leaf>, Memory>
-        ensures { IfOk result (λ leaves. leaves.items ≡ within_range (key_rank from.now) (key_rank to.now) (leaves_of self.now)) }
+    pub fn leaves_between<V: Volume>(
+        &self,
+        alloc: Global,
+        volume: &mut V,
+        cache: &mut NodeCache,
+        from: &Key,
+        to: &Key,
+    ) -> Result<Vec<Leaf>, AreaFault>
+        requires stands { DoesIndexStand (V.state volume.old) self.now }
+        requires kept { AreKept (V.state volume.old).holds cache.old }
+        ensures leaves { IfOk result (λ leaves. leaves.items ≡ within_range (key_rank from.now) (key_rank to.now) (leaves_of self.now)) }
+        ensures reads { IsReadOnlyCall (V.state volume.old) (V.state volume.new) result }
+        ensures kept { AreKept (V.state volume.new).holds cache.new }
     {
-        self.table.leaves_between(alloc, self.root, from, to)
+        self.table
+            .leaves_between(alloc, volume, cache, self.root, from, to)
     }
 
     /// The index that is seen and the frozen one are indexes: their nodes have 1 to `fanout` children, and their keys are keys and lie
@@ -101,14 +172,17 @@ impl PagedIndex {
         self.table.trees_fit();
     }
 
-    /// The number of nodes, and the weight: that number plus the number of full ones. It looks at all nodes.
+    /// The number of nodes, and the weight: that number plus the number of full ones. It looks at all nodes, and reads those that aren't
+    /// loaded. The volume is as it was.
     ///
-    /// `Memory` comes only if the numbers pass 64 bits.
-    pub fn size(&self) -> Result<TreeCounts, Memory>
+    /// `Memory` and `Volume` are the faults. Numbers past 64 bits are answered as want of memory.
+    pub fn size<V: Volume>(&self, alloc: Global, volume: &mut V) -> Result<TreeCounts, AreaFault>
+        requires stands { DoesIndexStand (V.state volume.old) self.now }
         ensures nodes { IfOk result (λ size. size.nodes ≡ node_count (bare (keyed_tree_of self.now))) }
         ensures weight { IfOk result (λ size. size.weight ≡ shape_weight (fanout_of self.now) (bare (keyed_tree_of self.now))) }
+        ensures reads { IsReadOnlyCall (V.state volume.old) (V.state volume.new) result }
     {
-        self.table.size(self.root)
+        self.table.size(alloc, volume, self.root)
     }
 
     /// Puts the leaf after all leaves whose key isn't greater. Nodes on its way are dirty, and all others keep their places.
@@ -125,35 +199,55 @@ impl PagedIndex {
     }
 
     /// Takes the leaf out, with the nodes that this empties; false exactly where it isn't there. Nodes on its way are dirty,
-    /// and all others keep their places.
+    /// and all others keep their places. The leaf is looked up first.
     ///
-    /// After `Memory` the index is as before.
-    pub fn remove(&mut self, alloc: Global, leaf: &Leaf) -> Result<bool, Memory>
+    /// After `Memory` or `Volume` the index is as before.
+    pub fn remove<V: Volume>(
+        &mut self,
+        alloc: Global,
+        volume: &mut V,
+        cache: &mut NodeCache,
+        leaf: &Leaf,
+    ) -> Result<bool, AreaFault>
+        requires stands { DoesIndexStand (V.state volume.old) self.old }
+        requires kept { AreKept (V.state volume.old).holds cache.old }
         ensures found { IfOk result (λ found. found ≡ holds leaf.now (leaves_of self.old)) }
         ensures tree { OnOk result (keyed_tree_of self.new ≡ tree_without leaf.now (keyed_tree_of self.old)) }
         ensures leaves { OnOk result (leaves_of self.new ≡ without leaf.now (leaves_of self.old)) }
         ensures err { OnErr result (keyed_tree_of self.new ≡ keyed_tree_of self.old) }
-        ensures kept { KeepsNodes self.old self.new }
+        ensures nodes { KeepsNodes self.old self.new }
+        ensures reads { IsReadOnlyCall (V.state volume.old) (V.state volume.new) result }
+        ensures kept { AreKept (V.state volume.new).holds cache.new }
     {
-        let found = self.holds(leaf);
+        let found = self.holds(alloc, volume, cache, leaf)?;
         self.make(alloc, Change::Remove(*leaf))?;
         Ok(found)
     }
 
     /// Puts a leaf at the place of another of its key; false exactly where that one isn't there. Nodes on its way are dirty,
-    /// and all others keep their places.
+    /// and all others keep their places. The other one is looked up first.
     ///
-    /// After `Memory` the index is as before.
-    pub fn replace(&mut self, alloc: Global, old: &Leaf, new: Leaf) -> Result<bool, Memory>
-        requires key { IsKey new.key }
-        requires one_key { leaf_rank new ≡ leaf_rank old.now }
+    /// After `Memory` or `Volume` the index is as before.
+    pub fn replace<V: Volume>(
+        &mut self,
+        alloc: Global,
+        volume: &mut V,
+        cache: &mut NodeCache,
+        old: &Leaf,
+        new: Leaf,
+    ) -> Result<bool, AreaFault>
+        requires key { (leaf_rank new ≡ leaf_rank old.now) × IsKey new.key }
+        requires stands { DoesIndexStand (V.state volume.old) self.old }
+        requires kept { AreKept (V.state volume.old).holds cache.old }
         ensures found { IfOk result (λ found. found ≡ holds old.now (leaves_of self.old)) }
         ensures tree { OnOk result (keyed_tree_of self.new ≡ replaced_by_keys old.now new (keyed_tree_of self.old)) }
         ensures leaves { OnOk result (leaves_of self.new ≡ swapped old.now new (leaves_of self.old)) }
         ensures err { OnErr result (keyed_tree_of self.new ≡ keyed_tree_of self.old) }
-        ensures kept { KeepsNodes self.old self.new }
+        ensures nodes { KeepsNodes self.old self.new }
+        ensures reads { IsReadOnlyCall (V.state volume.old) (V.state volume.new) result }
+        ensures kept { AreKept (V.state volume.new).holds cache.new }
     {
-        let found = self.holds(old);
+        let found = self.holds(alloc, volume, cache, old)?;
         let change = Change::Replace {
             gone: *old,
             come: new,

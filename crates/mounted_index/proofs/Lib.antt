@@ -3,4 +3,3 @@ pub mod Standing
 pub mod Committed
 pub mod Running
 pub mod ClientSteps
-pub mod Sizes

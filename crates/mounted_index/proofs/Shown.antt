@@ -1,6 +1,6 @@
 -- What an index shows, by where its nodes are, and while a volume is only read.
 use Rattle.std.proofs.Common.{◌≡◌, ℕ, List, ap, sym, ◌∙◌, subst}
-use Rattle.index_cache.specs.Paged.{fanout_of, keyed_tree_of}
+use Rattle.index_cache.specs.Paged.{fanout_of, keyed_tree_of, DoesIndexStand}
 use Rattle.index_cache.specs.declared.calls.Staged.{Staged}
 use Rattle.index_cache.specs.declared.paged.PagedIndex.{PagedIndex}
 use Rattle.index_media.specs.KeyedRow.{KeyedRow, all_clean, bare}
@@ -10,6 +10,7 @@ use Rattle.media_sys.specs.declared.branch.Branch.{Branch}
 use Rattle.node_cache.specs.Loaded.{IsIndexOn}
 use Rattle.node_cache.specs.RowsOn.{index_moved}
 use Rattle.node_table.specs.Changing.{changed_by}
+use Rattle.node_table.specs.UnloadedLaws.{loaded_stand}
 use Rattle.table_nodes.specs.NodeView.{tree_at}
 use Rattle.node_table.specs.Staging.{IsSoundRoot}
 use Rattle.node_table.specs.declared.change.Change.{Change}
@@ -40,6 +41,10 @@ pub of_medium : IsPlainWhereClean → (a : VolumeState) (fanout : ℕ) (row : Ke
 of_medium clean a fanout row nodes root P is h f =
     let own = nodes_as a fanout row nodes (OnMedium root) is h in
     subst P (sym (ap bare own.1 ∙ clean own.0)) (f own.0 own.2)
+
+-- nodes in memory are all loaded, so none of them needs to stand on the volume
+pub index_stands : (a : VolumeState) (index : PagedIndex) → DoesIndexStand a index
+index_stands a index = loaded_stand a index.table.nodes.items index.root index.table.loaded
 
 -- ---- changes
 -- what changes make, over the index in memory

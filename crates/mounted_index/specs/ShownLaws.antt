@@ -1,13 +1,12 @@
 -- How long an index has the row that it has, and where its clean nodes stand.
-use Rattle.std.proofs.Common.{◌≡◌, ◌<◌, ℕ, List, refl, ap, sym, subst, true}
+use Rattle.std.proofs.Common.{◌≡◌, ◌<◌, ℕ, List, sym, subst}
 use Rattle.std.specs.Prelude.{All}
 use Rattle.std.proofs.lemmas.List.Elements.{All-weaker}
 use Rattle.commit_steps.specs.UnderWayLaws.{DependsOnItsLebs, all_given, clean_lebs, given_all, within_moved, within_of}
 use Rattle.index_commit.specs.Lebs.{IsGiven}
 use Rattle.index_commit.specs.Standing.{AreOutside}
-use Rattle.index_media.specs.Clean.{is_clean_row, placed_of}
 use Rattle.index_media.specs.KeyedRow.{KeyedRow, all_clean}
-use Rattle.index_media.specs.PlacedRow.{PlacedRow, ended, leaf_at, node_at, lebs_of}
+use Rattle.index_media.specs.PlacedRow.{PlacedRow, lebs_of}
 use Rattle.index_media.specs.Stored.{IsStoredIndex}
 use Rattle.media_sys.specs.declared.branch.Branch.{Branch}
 use Rattle.node_cache.specs.Loaded.{IsIndexOn}

@@ -39,7 +39,7 @@ impl MountedIndex {
         an_insertion_goes_by_the_keys_of_branches();
         match &self.nodes {
             IndexNodes::OnMedium(root) => self.cache.find(alloc, volume, root, key, nth),
-            IndexNodes::InMemory(index) => Ok(index.find(key, nth)),
+            IndexNodes::InMemory(index) => index.find(alloc, volume, &mut self.cache, key, nth),
         }
     }
 
@@ -62,7 +62,7 @@ impl MountedIndex {
         an_insertion_goes_by_the_keys_of_branches();
         match &self.nodes {
             IndexNodes::OnMedium(root) => self.cache.after(alloc, volume, root, key),
-            IndexNodes::InMemory(index) => Ok(index.after(key)),
+            IndexNodes::InMemory(index) => index.after(alloc, volume, &mut self.cache, key),
         }
     }
 
@@ -85,7 +85,7 @@ impl MountedIndex {
         an_insertion_goes_by_the_keys_of_branches();
         match &self.nodes {
             IndexNodes::OnMedium(root) => self.cache.last_of(alloc, volume, root, ino),
-            IndexNodes::InMemory(index) => Ok(index.last_of(ino)),
+            IndexNodes::InMemory(index) => index.last_of(alloc, volume, &mut self.cache, ino),
         }
     }
 
@@ -107,7 +107,7 @@ impl MountedIndex {
         an_insertion_goes_by_the_keys_of_branches();
         match &self.nodes {
             IndexNodes::OnMedium(root) => self.cache.holds(alloc, volume, root, leaf),
-            IndexNodes::InMemory(index) => Ok(index.holds(leaf)),
+            IndexNodes::InMemory(index) => index.holds(alloc, volume, &mut self.cache, leaf),
         }
     }
 
@@ -134,7 +134,9 @@ impl MountedIndex {
             IndexNodes::OnMedium(root) => {
                 self.cache.leaves_between(alloc, volume, root, from, to)
             }
-            IndexNodes::InMemory(index) => Ok(index.leaves_between(alloc, from, to)?),
+            IndexNodes::InMemory(index) => {
+                index.leaves_between(alloc, volume, &mut self.cache, from, to)
+            }
         }
     }
 
@@ -157,7 +159,7 @@ impl MountedIndex {
         an_insertion_goes_by_the_keys_of_branches();
         match &self.nodes {
             IndexNodes::OnMedium(root) => self.cache.leaves_in(alloc, volume, root, lnum),
-            IndexNodes::InMemory(index) => Ok(index.leaves_in(alloc, lnum)?),
+            IndexNodes::InMemory(index) => index.leaves_in(alloc, volume, &mut self.cache, lnum),
         }
     }
 }

@@ -1,6 +1,6 @@
 -- The bounds of dirty nodes, as nodes are added, taken back and given places.
 use Rattle.std.proofs.Common.{◌≡◌, ℕ, zero, suc, ◌+◌, ◌≤◌, true, false, List, [], ◌∷◌, ◌++◌, length, take, refl, ap, sym, ◌∙◌, subst, arith, inl, inr, length-append, append-nil}
-use Rattle.std.specs.Prelude.{◌==◌, not, Bool, Option, None, Some, Result, Ok, Err, IfOk, if◌then◌else◌, is_some, map, slice_get, unwrap_or}
+use Rattle.std.specs.Prelude.{◌==◌, Bool, Option, None, Some, Result, Ok, Err, IfOk, if◌then◌else◌, is_some, map, slice_get, unwrap_or}
 use Rattle.std.proofs.lemmas.Bool.{cases_Bool}
 use Rattle.ubifs_base.specs.declared.memory.Memory.{Memory}
 use Rattle.node_table.specs.Bounds.{AreNoLonger}

@@ -1,19 +1,20 @@
 -- The numbers of trees of nodes, and nodes that are taken back.
-use Rattle.std.proofs.Common.{◌≡◌, ℕ, ◌+◌, ◌≤◌, true, false, List, [], ◌∷◌, length, take, refl, ap, sym, ◌∙◌, subst, arith, inl, inr}
-use Rattle.std.specs.Prelude.{Option, None, Some, Result, Ok, Err, IfOk, if◌then◌else◌, nat_le, slice_get}
+use Rattle.std.proofs.Common.{◌≡◌, ℕ, ◌+◌, ◌≤◌, false, List, length, take, refl, ap, sym, ◌∙◌, subst, arith, inl, inr}
+use Rattle.std.specs.Prelude.{Option, None, Some, Result, Ok, Err, IfOk, if◌then◌else◌, nat_le}
 use Rattle.std.proofs.lemmas.Bool.{cases_Bool}
 use Rattle.std.proofs.lemmas.Bool.Decides.{nat_tests}
 use Rattle.std.proofs.Math.Seq.{take-append_seam}
 use Rattle.ubifs_base.specs.declared.key.Key.{Key}
-use Rattle.ubifs_base.specs.declared.memory.Memory.{Memory}
-use Rattle.index_tree.specs.Shape.{count, node_count, shape_weight, full}
+use Rattle.ubi_volume.specs.declared.fault.AreaFault.{AreaFault}
+use Rattle.index_tree.specs.Shape.{Shape, done, node, count, node_count, shape_weight, full}
+use Rattle.index_media.specs.PlacedRow.{PlacedRow, ended, node_at, plain}
+use Rattle.media_sys.specs.declared.branch.Branch.{Branch}
 use Rattle.index_media.specs.KeyedRow.{KeyedRow, no_more, bare}
-use Rattle.node_table.specs.Counting.{counts_of}
+use Rattle.node_table.specs.Counting.{counts_of, AreCountsOf}
 use Rattle.table_nodes.specs.NodeView.{NodeView, node_before, row_of, children_in}
 use Rattle.table_nodes.specs.Links.{AreNodesAdded}
 use Rattle.node_table.specs.declared.counts.TreeCounts.{TreeCounts}
 use Rattle.table_nodes.specs.declared.link.Link.{Link}
-use Rattle.table_nodes.specs.declared.link.Link.TheVariants.{ToLeaf, ToNode}
 use Rattle.table_nodes.specs.declared.node.TableNode.{TableNode}
 use Rattle.node_table.proofs.Staged.{links_counted}
 
@@ -44,11 +45,17 @@ sized_over f seen links own below weight n w b c d =
     same_counts own (node_count (bare (row_of seen links)) + 0 + 1) (shape_weight f (bare (row_of seen links)) + 0 + 1 + full f (bare (row_of seen links)))
     (omega (arith, n, c)) (omega (arith, w, whole, d))
 
-pub sized_ok : (f : ℕ) (seen : List NodeView) (links : List Link) (children : KeyedRow) (weight : ℕ) (below : TreeCounts) (r : Result TreeCounts Memory) → children ≡ row_of seen links
-    → IfOk r (λ own. own.nodes ≡ 1 + below.nodes) → IfOk r (λ own. own.weight ≡ weight + below.weight) → weight ≡ (if nat_le f (length links) then 2 else 1)
-    → below.nodes ≡ node_count (bare (row_of seen links)) → below.weight ≡ shape_weight f (bare (row_of seen links)) → IfOk r (λ own. own ≡ counts_of f children)
-sized_ok f seen links children weight below (Ok own) e n w b c d = sized_over f seen links own below weight n w b c d ∙ ap (counts_of f) (sym e)
-sized_ok f seen links children weight below (Err fault) e n w b c d = tt
+pub sized : (f : ℕ) (seen : List NodeView) (links : List Link) (children : KeyedRow) (weight : ℕ) (own below : TreeCounts) → children ≡ row_of seen links
+    → own.nodes ≡ 1 + below.nodes → own.weight ≡ weight + below.weight → weight ≡ (if nat_le f (length links) then 2 else 1)
+    → below.nodes ≡ node_count (bare (row_of seen links)) → below.weight ≡ shape_weight f (bare (row_of seen links)) → own ≡ counts_of f children
+sized f seen links children weight own below e n w b c d = sized_over f seen links own below weight n w b c d ∙ ap (counts_of f) (sym e)
+
+-- those of a tree that stands on a volume
+pub sized_there : (f : ℕ) (branch : Branch) (row : PlacedRow) (children : KeyedRow) (r : Result TreeCounts AreaFault) → plain row ≡ bare children → IfOk r (λ counts. AreCountsOf f (plain (node_at branch row ended)) counts)
+    → IfOk r (λ own. own ≡ counts_of f children)
+sized_there f branch row children (Ok own) e h =
+    same_counts own (node_count (node (bare children) done)) (shape_weight f (node (bare children) done)) (h.0 ∙ ap (λ (s : Shape). node_count (node s done)) e) (h.1 ∙ ap (λ (s : Shape). shape_weight f (node s done)) e)
+sized_there f branch row children (Err fault) e h = tt
 
 -- what one link leads to
 node_apart : (f : ℕ) (key : Key) (o : Option NodeView) (rest : KeyedRow) → (node_count (bare (node_before key o rest)) ≡ node_count (bare (children_in o)) + node_count (bare rest) + 1)
@@ -56,44 +63,15 @@ node_apart : (f : ℕ) (key : Key) (o : Option NodeView) (rest : KeyedRow) → (
 node_apart f key None rest = (refl, refl)
 node_apart f key (Some v) rest = (refl, refl)
 
-pub root_nodes : (f : ℕ) (key : Key) (o : Option NodeView) (r : Result TreeCounts Memory) → IfOk r (λ own. own ≡ counts_of f (children_in o)) → IfOk r (λ own. own.nodes ≡ node_count (bare (node_before key o no_more)))
+pub root_nodes : (f : ℕ) (key : Key) (o : Option NodeView) (r : Result TreeCounts AreaFault) → IfOk r (λ own. own ≡ counts_of f (children_in o)) → IfOk r (λ own. own.nodes ≡ node_count (bare (node_before key o no_more)))
 root_nodes f key o (Ok own) h = ap (λ (c : TreeCounts). c.nodes) h ∙ sym (node_apart f key o no_more).0
 root_nodes f key o (Err fault) h = tt
 
-pub root_weight : (f : ℕ) (key : Key) (o : Option NodeView) (r : Result TreeCounts Memory) → IfOk r (λ own. own ≡ counts_of f (children_in o)) → IfOk r (λ own. own.weight ≡ shape_weight f (bare (node_before key o no_more)))
+pub root_weight : (f : ℕ) (key : Key) (o : Option NodeView) (r : Result TreeCounts AreaFault) → IfOk r (λ own. own ≡ counts_of f (children_in o)) → IfOk r (λ own. own.weight ≡ shape_weight f (bare (node_before key o no_more)))
 root_weight f key o (Ok own) h = ap (λ (c : TreeCounts). c.weight) h ∙ sym (node_apart f key o no_more).1
 root_weight f key o (Err fault) h = tt
 
 pub ruleset link_sizes = (root_nodes, root_weight)
-
--- and what is behind it
-first_apart : (f : ℕ) (seen : List NodeView) (link : Link) (rest : List Link) → (node_count (bare (row_of seen (link ∷ rest))) ≡ node_count (bare (row_of seen (link ∷ []))) + node_count (bare (row_of seen rest)))
-    × (shape_weight f (bare (row_of seen (link ∷ rest))) ≡ shape_weight f (bare (row_of seen (link ∷ []))) + shape_weight f (bare (row_of seen rest)))
-first_apart f seen (ToLeaf x) rest = (omega arith, omega arith)
-first_apart f seen (ToNode key number) rest =
-    let whole = node_apart f key (slice_get seen number) (row_of seen rest) in
-    let first = node_apart f key (slice_get seen number) no_more in
-    let a = whole.0 in
-    let b = first.0 in
-    let c = whole.1 in
-    let d = first.1 in
-    (omega (arith, a, b), omega (arith, c, d))
-
-pub both_nodes : (f : ℕ) (seen : List NodeView) (links rest : List Link) (link : Link) (own others : TreeCounts) (r : Result TreeCounts Memory) → links ≡ link ∷ rest
-    → own.nodes ≡ node_count (bare (row_of seen (link ∷ []))) → others.nodes ≡ node_count (bare (row_of seen rest)) → IfOk r (λ sum. sum.nodes ≡ own.nodes + others.nodes)
-    → IfOk r (λ sum. sum.nodes ≡ node_count (bare (row_of seen links)))
-both_nodes f seen links rest link own others (Err fault) is a b s = tt
-both_nodes f seen links rest link own others (Ok sum) is a b s =
-    let whole = ap (λ (l : List Link). node_count (bare (row_of seen l))) is ∙ (first_apart f seen link rest).0 in
-    omega (arith, whole, a, b, s)
-
-pub both_weights : (f : ℕ) (seen : List NodeView) (links rest : List Link) (link : Link) (own others : TreeCounts) (r : Result TreeCounts Memory) → links ≡ link ∷ rest
-    → own.weight ≡ shape_weight f (bare (row_of seen (link ∷ []))) → others.weight ≡ shape_weight f (bare (row_of seen rest)) → IfOk r (λ sum. sum.weight ≡ own.weight + others.weight)
-    → IfOk r (λ sum. sum.weight ≡ shape_weight f (bare (row_of seen links)))
-both_weights f seen links rest link own others (Err fault) is a b s = tt
-both_weights f seen links rest link own others (Ok sum) is a b s =
-    let whole = ap (λ (l : List Link). shape_weight f (bare (row_of seen l))) is ∙ (first_apart f seen link rest).1 in
-    omega (arith, whole, a, b, s)
 
 -- ---- nodes that are taken back
 pub taken_back : (old mid : List TableNode) (n : ℕ) → AreNodesAdded old mid → n ≡ length old → take n mid ≡ old

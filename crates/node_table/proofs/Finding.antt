@@ -1,6 +1,6 @@
 -- Where the leaves of one rank stand.
 use Rattle.std.proofs.Common.{◌≡◌, ℕ, zero, suc, ◌+◌, ◌-◌, ◌<◌, false, List, [], ◌∷◌, ◌++◌, drop, length, refl, ap, sym, subst, ◌∙◌, arith, length-append}
-use Rattle.std.specs.Prelude.{Some, None, slice_get, ◌==◌, Result, Ok, Err}
+use Rattle.std.specs.Prelude.{Some, None, slice_get, ◌==◌}
 use Rattle.std.proofs.lemmas.Bool.Decides.{nat_tests}
 use Rattle.std.proofs.lemmas.List.Elements.{filter-append}
 use Rattle.index_tree.specs.Order.{leaf_rank, of_rank}
@@ -10,7 +10,10 @@ use Rattle.index_media.specs.KeyedBounds.{AreAtMost, AreAtLeast, above_start}
 use Rattle.index_media.specs.KeyedKeys.{AreKeysBounded}
 use Rattle.index_media.specs.KeyedRow.{bare}
 use Rattle.table_nodes.specs.NodeView.{NodeView, row_of, links_begin}
-use Rattle.node_table.specs.Walk.{inside, IsNthOf}
+use Rattle.node_cache.specs.Branches.{IsNth}
+use Rattle.node_cache.specs.declared.nth.Nth.{Nth}
+use Rattle.node_cache.specs.declared.nth.Nth.TheVariants.{Found, Fewer}
+use Rattle.node_table.specs.Walk.{inside}
 use Rattle.table_nodes.specs.declared.link.Link.{Link}
 use Rattle.node_table.proofs.Rows.{Passed, link_apart, begins_by}
 
@@ -39,12 +42,12 @@ get_second (z ∷ xs) ys zero j h = absurd (omega (arith, h))
 get_second (z ∷ xs) ys (suc i) j h = get_second xs ys i j (omega (arith, h))
 
 -- leaves of a first list are among those of both
-nth_first : (xs ys : List Leaf) (nth : ℕ) (x : Leaf) → IsNthOf xs nth (Ok x) → IsNthOf (xs ++ ys) nth (Ok x)
+nth_first : (xs ys : List Leaf) (nth : ℕ) (x : Leaf) → IsNth xs nth (Found x) → IsNth (xs ++ ys) nth (Found x)
 nth_first xs ys nth x h = get_first xs ys nth x h
 
-nth_second : (xs ys : List Leaf) (nth left : ℕ) (r : Result Leaf ℕ) → IsNthOf xs nth (Err left) → IsNthOf ys left r → IsNthOf (xs ++ ys) nth r
-nth_second xs ys nth left (Ok x) h g = get_second xs ys nth left h ∙ g
-nth_second xs ys nth left (Err few) h g = let long = length-append xs ys in omega (arith, h, g, long)
+nth_second : (xs ys : List Leaf) (nth left : ℕ) (r : Nth) → IsNth xs nth (Fewer left) → IsNth ys left r → IsNth (xs ++ ys) nth r
+nth_second xs ys nth left (Found x) h g = get_second xs ys nth left h ∙ g
+nth_second xs ys nth left (Fewer few) h g = let long = length-append xs ys in omega (arith, h, g, long)
 
 apart : (seen : List NodeView) (at : ℕ) (link : Link) (links : List Link)
     → of_rank at (contents (bare (row_of seen (link ∷ links)))) ≡ of_rank at (contents (bare (inside seen link))) ++ of_rank at (contents (bare (row_of seen links)))
@@ -59,23 +62,23 @@ of_rank_passed seen low at links n l p =
     ap (of_rank at) p.is ∙ filter-append (λ x. leaf_rank x == at) p.front back ∙ ap (λ (v : List Leaf). v ++ of_rank at back) (none_below low at p.front l p.within)
 
 -- inside the first link
-pub nth_inside : (seen : List NodeView) (at : ℕ) (link : Link) (links : List Link) (nth : ℕ) (x : Leaf) → IsNthOf (of_rank at (contents (bare (inside seen link)))) nth (Ok x)
-    → IsNthOf (of_rank at (contents (bare (row_of seen (link ∷ links))))) nth (Ok x)
+pub nth_inside : (seen : List NodeView) (at : ℕ) (link : Link) (links : List Link) (nth : ℕ) (x : Leaf) → IsNth (of_rank at (contents (bare (inside seen link)))) nth (Found x)
+    → IsNth (of_rank at (contents (bare (row_of seen (link ∷ links))))) nth (Found x)
 nth_inside seen at link links nth x h =
-    let P : List Leaf → Type 0 = λ v. IsNthOf v nth (Ok x) in
+    let P : List Leaf → Type 0 = λ v. IsNth v nth (Found x) in
     subst P (sym (apart seen at link links)) (nth_first (of_rank at (contents (bare (inside seen link)))) (of_rank at (contents (bare (row_of seen links)))) nth x h)
 
 -- or behind it
-pub nth_outside : (seen : List NodeView) (at : ℕ) (link : Link) (links : List Link) (nth left : ℕ) (r : Result Leaf ℕ)
-    → IsNthOf (of_rank at (contents (bare (inside seen link)))) nth (Err left) → IsNthOf (of_rank at (contents (bare (row_of seen links)))) left r
-    → IsNthOf (of_rank at (contents (bare (row_of seen (link ∷ links))))) nth r
+pub nth_outside : (seen : List NodeView) (at : ℕ) (link : Link) (links : List Link) (nth left : ℕ) (r : Nth)
+    → IsNth (of_rank at (contents (bare (inside seen link)))) nth (Fewer left) → IsNth (of_rank at (contents (bare (row_of seen links)))) left r
+    → IsNth (of_rank at (contents (bare (row_of seen (link ∷ links))))) nth r
 nth_outside seen at link links nth left r h g =
-    let P : List Leaf → Type 0 = λ v. IsNthOf v nth r in
+    let P : List Leaf → Type 0 = λ v. IsNth v nth r in
     subst P (sym (apart seen at link links)) (nth_second (of_rank at (contents (bare (inside seen link)))) (of_rank at (contents (bare (row_of seen links)))) nth left r h g)
 
 -- where the links behind begin above the rank, none is there
 pub none_outside : (seen : List NodeView) (at least : ℕ) (links : List Link) (left : ℕ) → AreKeysBounded least None (row_of seen links) → links_begin at links ≡ false
-    → IsNthOf (of_rank at (contents (bare (row_of seen links)))) left (Err left)
+    → IsNth (of_rank at (contents (bare (row_of seen links)))) left (Fewer left)
 none_outside seen at least links left h b =
     let none = none_above at (contents (bare (row_of seen links))) (above_start at least None (row_of seen links) h (begins_by seen at links ∙ b)) in
     let long = ap length none in

@@ -1,4 +1,5 @@
 pub mod Rows
+pub mod Walked
 pub mod Following
 pub mod Finding
 pub mod Adding
@@ -11,6 +12,7 @@ pub mod ExchangeSound
 pub mod Removed
 pub mod Changed
 pub mod Counted
+pub mod VolumeCounts
 pub mod Bounded
 pub mod Ending
 pub mod LastBlocks

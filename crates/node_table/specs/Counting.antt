@@ -1,6 +1,6 @@
 -- The numbers of the tree below a node.
-use Rattle.std.specs.Prelude.{ℕ}
-use Rattle.index_tree.specs.Shape.{node, done, node_count, shape_weight}
+use Rattle.std.specs.Prelude.{◌≡◌, ℕ}
+use Rattle.index_tree.specs.Shape.{Shape, node, done, node_count, shape_weight}
 use Rattle.index_media.specs.KeyedRow.{KeyedRow, bare}
 use Rattle.node_table.specs.declared.counts.TreeCounts.{TreeCounts}
 
@@ -10,3 +10,7 @@ counts_of fanout children = record {
   nodes = node_count (node (bare children) done);
   weight = shape_weight fanout (node (bare children) done);
 }
+
+-- a shape has these numbers: so many nodes, and this weight
+abbrev pub AreCountsOf : ℕ → Shape → TreeCounts → Type 0
+AreCountsOf fanout shape counts = (counts.nodes ≡ node_count shape) × (counts.weight ≡ shape_weight fanout shape)

@@ -1,4 +1,6 @@
 pub mod Walk
+pub mod Unloaded
+pub mod UnloadedLaws
 pub mod Staging
 pub mod Exchange
 pub mod Changing

@@ -27,9 +27,11 @@ mod rooting;
 mod scan;
 mod staging;
 mod table;
+mod volume_counting;
 
 pub use crate::change::Change;
 pub use crate::counts::TreeCounts;
 pub use crate::laws::{clean_rows_are_placed, places_are_kept, roots_stay};
 pub use crate::range_removal::RangeRemoved;
 pub use crate::table::NodeTable;
+pub use crate::volume_counting::count_below;

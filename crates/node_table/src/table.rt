@@ -6,10 +6,13 @@ ghost use Rattle.index_tree.specs.Order.{key_rank, of_rank, first_after};
 ghost use Rattle.index_tree.specs.RangeRemoval.{within_range};
 ghost use Rattle.index_tree.specs.Removal.{holds};
 ghost use Rattle.index_media.specs.KeyedRow.{no_more, node_in};
+ghost use Rattle.node_cache.specs.Kept.{AreKept};
+ghost use Rattle.node_cache.specs.Loaded.{IsReadOnlyCall};
 ghost use Rattle.table_nodes.specs.Beyond.{is_loaded, are_loaded};
 ghost use Rattle.table_nodes.specs.Clean.{is_clean_below, are_clean_below};
 ghost use Rattle.node_table.specs.Bounds.{AreNoLonger, no_longer-prop};
 ghost use Rattle.node_table.specs.Dirty.{dirty_lists};
+ghost use Rattle.node_table.specs.Unloaded.{DoesRootStand};
 ghost use Rattle.table_nodes.specs.NodeView.{node_views, node_view_of, row_of, stretch_at, tree_at, leaves_at, IsRootIn};
 ghost use Rattle.table_nodes.specs.Sound.{IsSoundView, AreSoundViews, sound_views-prop};
 ghost use Rattle.table_nodes.specs.declared.node.Root.{Root as ARoot};
@@ -17,9 +20,10 @@ ghost use Rattle.ubifs_base.specs.declared.key.Key.{Key as AKey};
 
 use crate::bounds::push_both;
 use index_tree::Leaf;
-use node_cache::rank;
+use node_cache::{NodeCache, rank};
 use std::alloc::Global;
 use table_nodes::{Root, TableNode};
+use ubi_volume::{AreaFault, Volume};
 use ubifs_base::{Key, Memory};
 
 /// Nodes, named by the order in which they were added, from 0 on.
@@ -77,60 +81,119 @@ impl NodeTable {
 
     /// The leaf of this key behind `nth` others of the same key, below a root; none where there are too few.
     ///
-    /// It goes down one path, and where leaves of the key stand in several nodes, on to the next of them.
-    pub fn find(&self, root: Option<Root>, key: &Key, nth: u32) -> Option<Leaf>
-        ensures { result ≡ slice_get (of_rank (key_rank key.now) (leaves_at self.now.nodes.items root)) nth }
+    /// It goes down one path, and where leaves of the key stand in several nodes, on to the next of them. Below a node that isn't loaded
+    /// it goes on on the volume, by the nodes that are kept of it. Nothing is added to the table, and the volume is as it was. What isn't
+    /// loaded still stands where it was met (`stands`). `Memory` and `Volume` are the faults. All of this holds of each look-up.
+    pub fn find<V: Volume>(
+        &self,
+        alloc: Global,
+        volume: &mut V,
+        cache: &mut NodeCache,
+        root: Option<Root>,
+        key: &Key,
+        nth: u32,
+    ) -> Result<Option<Leaf>, AreaFault>
+        requires stands { DoesRootStand (V.state volume.old) self.now.nodes.items root }
+        requires kept { AreKept (V.state volume.old).holds cache.old }
+        ensures found { IfOk result (λ found. found ≡ slice_get (of_rank (key_rank key.now) (leaves_at self.now.nodes.items root)) nth) }
+        ensures reads { IsReadOnlyCall (V.state volume.old) (V.state volume.new) result }
+        ensures kept { AreKept (V.state volume.new).holds cache.new }
     {
-        let top = root?;
-        self.nth_below(top.number, rank(key), nth)
+        match root {
+            None => Ok(None),
+            Some(top) => self.nth_below(alloc, volume, cache, top.number, rank(key), nth),
+        }
     }
 
     /// The first leaf of a greater key below a root; none where there is none.
     ///
     /// It goes down one path, and at most one more.
-    pub fn after(&self, root: Option<Root>, key: &Key) -> Option<Leaf>
-        ensures { result ≡ first_after (key_rank key.now) (leaves_at self.now.nodes.items root) }
+    pub fn after<V: Volume>(
+        &self,
+        alloc: Global,
+        volume: &mut V,
+        cache: &mut NodeCache,
+        root: Option<Root>,
+        key: &Key,
+    ) -> Result<Option<Leaf>, AreaFault>
+        requires stands { DoesRootStand (V.state volume.old) self.now.nodes.items root }
+        requires kept { AreKept (V.state volume.old).holds cache.old }
+        ensures found { IfOk result (λ found. found ≡ first_after (key_rank key.now) (leaves_at self.now.nodes.items root)) }
+        ensures reads { IsReadOnlyCall (V.state volume.old) (V.state volume.new) result }
+        ensures kept { AreKept (V.state volume.new).holds cache.new }
     {
-        let top = root?;
-        self.after_below(top.number, rank(key))
+        match root {
+            None => Ok(None),
+            Some(top) => self.after_below(alloc, volume, cache, top.number, rank(key)),
+        }
     }
 
     /// The greatest block leaf of this inode below a root, the last one of equals; none where it has no block.
     ///
     /// It goes down one path, and at most one more.
-    pub fn last_of(&self, root: Option<Root>, ino: u32) -> Option<Leaf>
-        ensures { result ≡ last_block ino (leaves_at self.now.nodes.items root) }
+    pub fn last_of<V: Volume>(
+        &self,
+        alloc: Global,
+        volume: &mut V,
+        cache: &mut NodeCache,
+        root: Option<Root>,
+        ino: u32,
+    ) -> Result<Option<Leaf>, AreaFault>
+        requires stands { DoesRootStand (V.state volume.old) self.now.nodes.items root }
+        requires kept { AreKept (V.state volume.old).holds cache.old }
+        ensures found { IfOk result (λ found. found ≡ last_block ino (leaves_at self.now.nodes.items root)) }
+        ensures reads { IsReadOnlyCall (V.state volume.old) (V.state volume.new) result }
+        ensures kept { AreKept (V.state volume.new).holds cache.new }
     {
-        let top = root?;
-        self.last_block_below(top.number, ino)
+        match root {
+            None => Ok(None),
+            Some(top) => self.last_block_below(alloc, volume, cache, top.number, ino),
+        }
     }
 
     /// Whether this leaf, with its key and its place, stands below a root.
     ///
     /// It goes down one path, and where leaves of the key stand in several nodes, on to the next of them.
-    pub fn holds(&self, root: Option<Root>, leaf: &Leaf) -> bool
-        ensures { result ≡ holds leaf.now (leaves_at self.now.nodes.items root) }
+    pub fn holds<V: Volume>(
+        &self,
+        alloc: Global,
+        volume: &mut V,
+        cache: &mut NodeCache,
+        root: Option<Root>,
+        leaf: &Leaf,
+    ) -> Result<bool, AreaFault>
+        requires stands { DoesRootStand (V.state volume.old) self.now.nodes.items root }
+        requires kept { AreKept (V.state volume.old).holds cache.old }
+        ensures found { IfOk result (λ found. found ≡ holds leaf.now (leaves_at self.now.nodes.items root)) }
+        ensures reads { IsReadOnlyCall (V.state volume.old) (V.state volume.new) result }
+        ensures kept { AreKept (V.state volume.new).holds cache.new }
     {
         match root {
-            None => false,
-            Some(top) => self.holds_below(top.number, leaf),
+            None => Ok(false),
+            Some(top) => self.holds_below(alloc, volume, cache, top.number, leaf),
         }
     }
 
     /// The leaves below a root that stand in this LEB, in the order of the index. It looks at all leaves.
-    pub fn leaves_in(
+    pub fn leaves_in<V: Volume>(
         &self,
         alloc: Global,
+        volume: &mut V,
+        cache: &mut NodeCache,
         root: Option<Root>,
         lnum: u32,
-    ) -> Result<Vec<Leaf>, Memory>
-        ensures { IfOk result (λ leaves. leaves.items ≡ filter (λ x. x.lnum == lnum) (leaves_at self.now.nodes.items root)) }
+    ) -> Result<Vec<Leaf>, AreaFault>
+        requires stands { DoesRootStand (V.state volume.old) self.now.nodes.items root }
+        requires kept { AreKept (V.state volume.old).holds cache.old }
+        ensures leaves { IfOk result (λ leaves. leaves.items ≡ filter (λ x. x.lnum == lnum) (leaves_at self.now.nodes.items root)) }
+        ensures reads { IsReadOnlyCall (V.state volume.old) (V.state volume.new) result }
+        ensures kept { AreKept (V.state volume.new).holds cache.new }
     {
         let mut leaves = Vec::new(alloc);
         match root {
             None => Ok(leaves),
             Some(top) => {
-                self.push_below(top.number, lnum, &mut leaves)?;
+                self.push_below(alloc, volume, cache, top.number, lnum, &mut leaves)?;
                 Ok(leaves)
             }
         }
@@ -139,20 +202,34 @@ impl NodeTable {
     /// The leaves below a root with keys from `from` to `to`, both included, in the order of the index.
     ///
     /// It goes down the paths to these leaves alone.
-    pub fn leaves_between(
+    pub fn leaves_between<V: Volume>(
         &self,
         alloc: Global,
+        volume: &mut V,
+        cache: &mut NodeCache,
         root: Option<Root>,
         from: &Key,
         to: &Key,
-    ) -> Result<Vec<Leaf>, Memory>
-        ensures { IfOk result (λ leaves. leaves.items ≡ within_range (key_rank from.now) (key_rank to.now) (leaves_at self.now.nodes.items root)) }
+    ) -> Result<Vec<Leaf>, AreaFault>
+        requires stands { DoesRootStand (V.state volume.old) self.now.nodes.items root }
+        requires kept { AreKept (V.state volume.old).holds cache.old }
+        ensures leaves { IfOk result (λ leaves. leaves.items ≡ within_range (key_rank from.now) (key_rank to.now) (leaves_at self.now.nodes.items root)) }
+        ensures reads { IsReadOnlyCall (V.state volume.old) (V.state volume.new) result }
+        ensures kept { AreKept (V.state volume.new).holds cache.new }
     {
         let mut leaves = Vec::new(alloc);
         match root {
             None => Ok(leaves),
             Some(top) => {
-                self.push_range_below(top.number, rank(from), rank(to), &mut leaves)?;
+                self.push_range_below(
+                    alloc,
+                    volume,
+                    cache,
+                    top.number,
+                    rank(from),
+                    rank(to),
+                    &mut leaves,
+                )?;
                 Ok(leaves)
             }
         }

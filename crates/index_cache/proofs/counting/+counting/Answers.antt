@@ -1,9 +1,7 @@
-use Rattle.std.proofs.Common.{ℕ, ◌≤◌, ◌-◌, ◌^◌, List, length, subst, ap, sym, ◌∙◌, arith}
+use Rattle.std.proofs.Common.{ℕ, ◌-◌, ◌^◌, List, length, ap, sym, ◌∙◌, arith}
 use Rattle.std.specs.Prelude.{min}
-use Rattle.index_media.specs.KeyedRow.{KeyedRow, bare}
-use Rattle.index_tree.specs.Shape.{node_count}
 use Rattle.node_table.specs.Dirty.{dirty_lists, dirty_among}
-use Rattle.table_nodes.specs.NodeView.{node_views, row_of, children_in}
+use Rattle.table_nodes.specs.NodeView.{node_views, row_of}
 use Rattle.table_nodes.specs.declared.link.Link.{Link}
 use Rattle.node_table.proofs.Cleaning.{placed_list, dirty_list}
 use Rattle.node_table.proofs.DirtyLists.{dirty_opened, dirty_past}

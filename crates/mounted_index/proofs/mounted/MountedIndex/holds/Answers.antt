@@ -2,7 +2,7 @@ use Rattle.std.proofs.Common.{◌≡◌, refl}
 use Rattle.std.specs.Prelude.{IfOk}
 use Rattle.index_tree.specs.Removal.{holds}
 use Rattle.index_tree.specs.Shape.{Shape, contents}
-use Rattle.mounted_index.proofs.Shown.{nodes_moved, of_medium}
+use Rattle.mounted_index.proofs.Shown.{index_stands, nodes_moved, of_medium}
 use Rattle.mounted_index.proofs.mounted.MountedIndex.holds.Goals as goal
 
 pub returns-in-OnMedium-clause-found : goal.returns-in-OnMedium-clause-found
@@ -23,3 +23,6 @@ returns-in-OnMedium-clause-kept g c =
       alone = refl;
       geometry = refl;
     }
+
+pub holds-requires-in-InMemory-clause-stands : goal.holds-requires-in-InMemory-clause-stands
+holds-requires-in-InMemory-clause-stands g c = index_stands (g.V.Volume.state c.args.volume.now) c.in-InMemory.index

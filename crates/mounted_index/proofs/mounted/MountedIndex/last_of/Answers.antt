@@ -2,7 +2,7 @@ use Rattle.std.proofs.Common.{◌≡◌, refl}
 use Rattle.std.specs.Prelude.{IfOk}
 use Rattle.index_tree.specs.LastBlock.{last_block}
 use Rattle.index_tree.specs.Shape.{Shape, contents}
-use Rattle.mounted_index.proofs.Shown.{nodes_moved, of_medium}
+use Rattle.mounted_index.proofs.Shown.{index_stands, nodes_moved, of_medium}
 use Rattle.mounted_index.proofs.mounted.MountedIndex.last_of.Goals as goal
 
 pub returns-in-OnMedium-clause-found : goal.returns-in-OnMedium-clause-found
@@ -23,3 +23,6 @@ returns-in-OnMedium-clause-kept g c =
       alone = refl;
       geometry = refl;
     }
+
+pub last_of-requires-in-InMemory-clause-stands : goal.last_of-requires-in-InMemory-clause-stands
+last_of-requires-in-InMemory-clause-stands g c = index_stands (g.V.Volume.state c.args.volume.now) c.in-InMemory.index

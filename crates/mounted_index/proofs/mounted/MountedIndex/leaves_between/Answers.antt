@@ -3,7 +3,7 @@ use Rattle.std.specs.Prelude.{IfOk}
 use Rattle.index_tree.specs.Order.{key_rank}
 use Rattle.index_tree.specs.RangeRemoval.{within_range}
 use Rattle.index_tree.specs.Shape.{Shape, contents}
-use Rattle.mounted_index.proofs.Shown.{nodes_moved, of_medium}
+use Rattle.mounted_index.proofs.Shown.{index_stands, nodes_moved, of_medium}
 use Rattle.mounted_index.proofs.mounted.MountedIndex.leaves_between.Goals as goal
 
 pub returns-in-OnMedium-clause-leaves : goal.returns-in-OnMedium-clause-leaves
@@ -24,3 +24,6 @@ returns-in-OnMedium-clause-kept g c =
       alone = refl;
       geometry = refl;
     }
+
+pub leaves_between-requires-in-InMemory-clause-stands : goal.leaves_between-requires-in-InMemory-clause-stands
+leaves_between-requires-in-InMemory-clause-stands g c = index_stands (g.V.Volume.state c.args.volume.now) c.in-InMemory.index

@@ -1,7 +1,7 @@
 use Rattle.std.proofs.Common.{◌≡◌, refl}
 use Rattle.std.specs.Prelude.{◌==◌, IfOk, filter}
 use Rattle.index_tree.specs.Shape.{Shape, contents}
-use Rattle.mounted_index.proofs.Shown.{nodes_moved, of_medium}
+use Rattle.mounted_index.proofs.Shown.{index_stands, nodes_moved, of_medium}
 use Rattle.mounted_index.proofs.mounted.MountedIndex.leaves_in.Goals as goal
 
 pub returns-in-OnMedium-clause-leaves : goal.returns-in-OnMedium-clause-leaves
@@ -22,3 +22,6 @@ returns-in-OnMedium-clause-kept g c =
       alone = refl;
       geometry = refl;
     }
+
+pub leaves_in-requires-in-InMemory-clause-stands : goal.leaves_in-requires-in-InMemory-clause-stands
+leaves_in-requires-in-InMemory-clause-stands g c = index_stands (g.V.Volume.state c.args.volume.now) c.in-InMemory.index

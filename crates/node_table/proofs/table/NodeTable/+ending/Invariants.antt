@@ -5,10 +5,10 @@ use Rattle.node_table.proofs.Rows.{row_size, link_size}
 use Rattle.node_table.proofs.table.NodeTable.+ending.Given as goal
 
 abbrev pub decreases-last_below : goal.decreases-last_below
-decreases-last_below l = 3 * row_size (children_in (slice_get (node_views l.self.now.nodes.items) l.number)) + 1
+decreases-last_below g l = 3 * row_size (children_in (slice_get (node_views l.self.now.nodes.items) l.number)) + 1
 
 abbrev pub decreases-last_among : goal.decreases-last_among
-decreases-last_among l = 3 * row_size (row_of (node_views l.self.now.nodes.items) l.links.now)
+decreases-last_among g l = 3 * row_size (row_of (node_views l.self.now.nodes.items) l.links.now)
 
 abbrev pub decreases-last_link : goal.decreases-last_link
-decreases-last_link l = 3 * link_size (node_views l.self.now.nodes.items) l.link.now + 2
+decreases-last_link g l = 3 * link_size (node_views l.self.now.nodes.items) l.link.now + 2

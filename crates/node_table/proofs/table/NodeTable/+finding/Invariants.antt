@@ -5,10 +5,10 @@ use Rattle.node_table.proofs.Rows.{row_size, link_size}
 use Rattle.node_table.proofs.table.NodeTable.+finding.Given as goal
 
 abbrev pub decreases-find_below : goal.decreases-find_below
-decreases-find_below l = 3 * row_size (children_in (slice_get (node_views l.self.now.nodes.items) l.number)) + 1
+decreases-find_below g l = 3 * row_size (children_in (slice_get (node_views l.self.now.nodes.items) l.number)) + 1
 
 abbrev pub decreases-find_among : goal.decreases-find_among
-decreases-find_among l = 3 * row_size (row_of (node_views l.self.now.nodes.items) l.links.now)
+decreases-find_among g l = 3 * row_size (row_of (node_views l.self.now.nodes.items) l.links.now)
 
 abbrev pub decreases-find_link : goal.decreases-find_link
-decreases-find_link l = 3 * link_size (node_views l.self.now.nodes.items) l.link.now + 2
+decreases-find_link g l = 3 * link_size (node_views l.self.now.nodes.items) l.link.now + 2

@@ -5,10 +5,10 @@ use Rattle.node_table.proofs.Rows.{row_size, link_size}
 use Rattle.node_table.proofs.table.NodeTable.+following.Given as goal
 
 abbrev pub decreases-after_below : goal.decreases-after_below
-decreases-after_below l = 3 * row_size (children_in (slice_get (node_views l.self.now.nodes.items) l.number)) + 1
+decreases-after_below g l = 3 * row_size (children_in (slice_get (node_views l.self.now.nodes.items) l.number)) + 1
 
 abbrev pub decreases-after_among : goal.decreases-after_among
-decreases-after_among l = 3 * row_size (row_of (node_views l.self.now.nodes.items) l.links.now)
+decreases-after_among g l = 3 * row_size (row_of (node_views l.self.now.nodes.items) l.links.now)
 
 abbrev pub decreases-after_link : goal.decreases-after_link
-decreases-after_link l = 3 * link_size (node_views l.self.now.nodes.items) l.link.now + 2
+decreases-after_link g l = 3 * link_size (node_views l.self.now.nodes.items) l.link.now + 2

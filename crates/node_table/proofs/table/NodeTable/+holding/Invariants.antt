@@ -5,10 +5,10 @@ use Rattle.node_table.proofs.Rows.{row_size, link_size}
 use Rattle.node_table.proofs.table.NodeTable.+holding.Given as goal
 
 abbrev pub decreases-holds_below : goal.decreases-holds_below
-decreases-holds_below l = 3 * row_size (children_in (slice_get (node_views l.self.now.nodes.items) l.number)) + 1
+decreases-holds_below g l = 3 * row_size (children_in (slice_get (node_views l.self.now.nodes.items) l.number)) + 1
 
 abbrev pub decreases-holds_among : goal.decreases-holds_among
-decreases-holds_among l = 3 * row_size (row_of (node_views l.self.now.nodes.items) l.links.now)
+decreases-holds_among g l = 3 * row_size (row_of (node_views l.self.now.nodes.items) l.links.now)
 
 abbrev pub decreases-holds_link : goal.decreases-holds_link
-decreases-holds_link l = 3 * link_size (node_views l.self.now.nodes.items) l.link.now + 2
+decreases-holds_link g l = 3 * link_size (node_views l.self.now.nodes.items) l.link.now + 2

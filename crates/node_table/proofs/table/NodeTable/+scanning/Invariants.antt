@@ -5,10 +5,10 @@ use Rattle.node_table.proofs.Rows.{row_size, link_size}
 use Rattle.node_table.proofs.table.NodeTable.+scanning.Given as goal
 
 abbrev pub decreases-push_below : goal.decreases-push_below
-decreases-push_below l = 3 * row_size (children_in (slice_get (node_views l.self.now.nodes.items) l.number)) + 1
+decreases-push_below g l = 3 * row_size (children_in (slice_get (node_views l.self.now.nodes.items) l.number)) + 1
 
 abbrev pub decreases-push_among : goal.decreases-push_among
-decreases-push_among l = 3 * row_size (row_of (node_views l.self.now.nodes.items) l.links.now)
+decreases-push_among g l = 3 * row_size (row_of (node_views l.self.now.nodes.items) l.links.now)
 
 abbrev pub decreases-push_link : goal.decreases-push_link
-decreases-push_link l = 3 * link_size (node_views l.self.now.nodes.items) l.link.now + 2
+decreases-push_link g l = 3 * link_size (node_views l.self.now.nodes.items) l.link.now + 2

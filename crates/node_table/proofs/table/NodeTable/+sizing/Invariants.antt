@@ -5,10 +5,10 @@ use Rattle.node_table.proofs.Rows.{row_size, link_size}
 use Rattle.node_table.proofs.table.NodeTable.+sizing.Given as goal
 
 abbrev pub decreases-size_at : goal.decreases-size_at
-decreases-size_at l = 3 * row_size (children_in (slice_get (node_views l.self.now.nodes.items) l.number)) + 1
+decreases-size_at g l = 3 * row_size (children_in (slice_get (node_views l.self.now.nodes.items) l.number)) + 1
 
 abbrev pub decreases-size_among : goal.decreases-size_among
-decreases-size_among l = 3 * row_size (row_of (node_views l.self.now.nodes.items) l.links.now)
+decreases-size_among g l = 3 * row_size (row_of (node_views l.self.now.nodes.items) l.links.now)
 
 abbrev pub decreases-size_link : goal.decreases-size_link
-decreases-size_link l = 3 * link_size (node_views l.self.now.nodes.items) l.link.now + 2
+decreases-size_link g l = 3 * link_size (node_views l.self.now.nodes.items) l.link.now + 2

@@ -7,22 +7,22 @@ use Rattle.node_cache.specs.LastBlockLaws.{block_found, block_missing, none_up_t
 use Rattle.node_table.proofs.LastBlocks.{below_ascend}
 use Rattle.node_table.proofs.table.NodeTable.last_block_below.Goals as goal
 
-pub returns-in-None : goal.returns-in-None
-returns-in-None c =
+pub returns-in-None-clause-found : goal.returns-in-None-clause-found
+returns-in-None-clause-found g c =
     let nodes = c.args.self.now.nodes.items in
     let xs = contents (bare (children_in (slice_get (node_views nodes) c.args.number))) in
-    none_up_to c.args.ino c.last_rank.result xs (below_ascend c.args.self.now.fanout nodes c.args.number c.args.self.now.sound) c.last_rank.ensures c.in-None.ensures
+    none_up_to c.args.ino c.last_rank.result xs (below_ascend c.args.self.now.fanout nodes c.args.number c.args.self.now.sound) c.last_rank.ensures (sym c.in-None.is ∙ c.in_ok-last_below.ensures.found)
 
-pub returns-then-is_block_of : goal.returns-then-is_block_of
-returns-then-is_block_of c =
+pub returns-then-is_block_of-clause-found : goal.returns-then-is_block_of-clause-found
+returns-then-is_block_of-clause-found g c =
     let nodes = c.args.self.now.nodes.items in
     let xs = contents (bare (children_in (slice_get (node_views nodes) c.args.number))) in
-    block_found c.args.ino c.last_rank.result xs c.in-Some.leaf (below_ascend c.args.self.now.fanout nodes c.args.number c.args.self.now.sound) c.last_rank.ensures c.in-Some.ensures
+    block_found c.args.ino c.last_rank.result xs c.in-Some.leaf (below_ascend c.args.self.now.fanout nodes c.args.number c.args.self.now.sound) c.last_rank.ensures (sym c.in-Some.is ∙ c.in_ok-last_below.ensures.found)
     (sym c.is_block_of.ensures ∙ c.if-is_block_of.true)
 
-pub returns-else-is_block_of : goal.returns-else-is_block_of
-returns-else-is_block_of c =
+pub returns-else-is_block_of-clause-found : goal.returns-else-is_block_of-clause-found
+returns-else-is_block_of-clause-found g c =
     let nodes = c.args.self.now.nodes.items in
     let xs = contents (bare (children_in (slice_get (node_views nodes) c.args.number))) in
-    block_missing c.args.ino c.last_rank.result xs c.in-Some.leaf (below_ascend c.args.self.now.fanout nodes c.args.number c.args.self.now.sound) c.last_rank.ensures c.in-Some.ensures
+    block_missing c.args.ino c.last_rank.result xs c.in-Some.leaf (below_ascend c.args.self.now.fanout nodes c.args.number c.args.self.now.sound) c.last_rank.ensures (sym c.in-Some.is ∙ c.in_ok-last_below.ensures.found)
     (sym c.is_block_of.ensures ∙ c.if-is_block_of.false)
