@@ -84,9 +84,6 @@ front_stands s nodes links front n is h =
     subst (λ (l : List Link). IsOnVolume s (row_of seen l)) (sym is) (taken s seen n links h)
 
 -- ---- what a link leads to
-pub node_stands : (s : VolumeState) (nodes : List TableNode) (link : Link) (key : Key) (number : ℕ) → link ≡ ToNode key number → DoesLinkStand s nodes link → DoesNodeStand s nodes number
-node_stands s nodes link key number is h = (key, subst (λ (l : Link). DoesLinkStand s nodes l) is h)
-
 below_first : (s : VolumeState) (key : Key) (o : Option NodeView) → IsOnVolume s (node_before key o no_more) → IsOnVolume s (children_in o)
 below_first s key None h = tt
 below_first s key (Some v) h = h.1
@@ -102,13 +99,6 @@ links_moved a b nodes links keeps shape h = on_volume_moved a b (row_of (node_vi
 
 pub link_moved : (a b : VolumeState) (nodes : List TableNode) (link : Link) → Keeps a b → SameShape a b → DoesLinkStand a nodes link → DoesLinkStand b nodes link
 link_moved a b nodes link keeps shape h = on_volume_moved a b (linked_before (node_views (unplaced nodes)) link no_more) keeps shape h
-
-pub root_moved : (a b : VolumeState) (nodes : List TableNode) (root : Option Root) → Keeps a b → SameShape a b → DoesRootStand a nodes root → DoesRootStand b nodes root
-root_moved a b nodes None keeps shape h = tt
-root_moved a b nodes (Some root) keeps shape h = on_volume_moved a b (node_before root.key (slice_get (node_views (unplaced nodes)) root.number) no_more) keeps shape h
-
-pub node_of_root : (s : VolumeState) (nodes : List TableNode) (root : Option Root) (top : Root) → root ≡ Some top → DoesRootStand s nodes root → DoesNodeStand s nodes top.number
-node_of_root s nodes root top is h = (top.key, subst (λ (r : Option Root). DoesRootStand s nodes r) is h)
 
 -- ---- a node that isn't loaded
 -- the row below it stands on the volume, where a walk goes on

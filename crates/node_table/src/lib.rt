@@ -3,6 +3,7 @@
 //! A change adds nodes, and none is changed where it stands but for its place, which a commit gives it once. So whoever
 //! holds a root goes on seeing its index, whatever is added, and the places that its nodes get.
 //! table_nodes says what is seen of the nodes, from the first one on, and what holds of each.
+//! A look-up goes down loaded nodes in memory, and on on the volume below one that isn't loaded.
 #![tactic(auto)]
 
 mod after;

@@ -17,7 +17,7 @@ use table_nodes::{Link, TableNode, stub_at};
 use ubifs_base::Key;
 
 /// A node that isn't loaded: a branch to it, without its key, and how far it stands above the lowest level.
-#[derive(Clone, Copy, Debug, PartialEq, Eq)]
+#[derive(Clone, Copy)]
 pub(crate) struct Unloaded {
     pub(crate) branch: Branch,
     pub(crate) level: u16,
