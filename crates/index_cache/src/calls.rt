@@ -55,8 +55,8 @@ impl PagedIndex {
     /// The leaf of this key behind `nth` others of the same key; none where there are too few.
     ///
     /// It goes down loaded nodes in memory, and below a node that isn't loaded on the volume, by the nodes that are kept of it. Nothing is
-    /// loaded, and the volume is as it was. What isn't loaded still stands where it was met (`stands`). `Memory` and `Volume` are the
-    /// faults. All of this holds of each look-up.
+    /// loaded, and the volume is as it was. It asks that what isn't loaded still stands where it was met (`stands`). `Memory` and `Volume`
+    /// are the faults. All of this holds of each look-up that takes a cache.
     pub fn find<V: Volume>(
         &self,
         alloc: Global,

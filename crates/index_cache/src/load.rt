@@ -4,6 +4,7 @@ ghost use Rattle.std.specs.Prelude.{◌≡◌, ◌+◌, ◌<◌, true, IfOk, OnO
 ghost use Rattle.index_media.specs.Clean.{is_clean_row};
 ghost use Rattle.index_media.specs.KeyedRow.{KeyedRow, no_more, node_in, all_clean};
 ghost use Rattle.index_media.specs.PlacedRow.{PlacedRow, ended, node_at, branches_of, stretch_of, leaf_of};
+ghost use Rattle.node_table.specs.Unloaded.{AreAllLoaded};
 ghost use Rattle.table_nodes.specs.NodeView.{node_views, row_of, linked_before};
 ghost use Rattle.table_nodes.specs.Sound.{IsSoundView};
 ghost use Rattle.table_nodes.specs.Links.{row_before, AreLinksIn, AreNodesAdded};
@@ -46,6 +47,7 @@ fn add_clean(
     ensures made { IfOk result (λ number. (key : AKey) (rest : KeyedRow) → linked_before (node_views table.new.nodes.items) (ToNode key number) rest ≡ node_in key (Some (stretch_of branch.now)) (row_of (node_views table.old.nodes.items) links.items) rest) }
     ensures number { IfOk result (λ number. number < length table.new.nodes.items) }
     ensures added { AreNodesAdded table.old.nodes.items table.new.nodes.items }
+    ensures all { AreAllLoaded table.old.nodes.items → AreAllLoaded table.new.nodes.items }
     ensures fanout { table.new.fanout ≡ table.old.fanout }
 {
     let place = NodePlace {
@@ -75,6 +77,7 @@ fn load_node<V: Volume>(
         → IfOk result (λ number. (key : AKey) (rest : KeyedRow) → linked_before (node_views table.new.nodes.items) (ToNode key number) rest ≡ node_in key (Some (stretch_of branch.now)) (all_clean row) rest) }
     ensures number { IfOk result (λ number. number < length table.new.nodes.items) }
     ensures added { AreNodesAdded table.old.nodes.items table.new.nodes.items }
+    ensures all { AreAllLoaded table.old.nodes.items → AreAllLoaded table.new.nodes.items }
     ensures fanout { table.new.fanout ≡ table.old.fanout }
     ensures reads { IsReadOnlyCall (V.state volume.old) (V.state volume.new) result }
 {
@@ -109,6 +112,7 @@ fn load_among<V: Volume>(
         → OnOk result (row_before (node_views table.new.nodes.items) links.new.items no_more ≡ row_before (node_views table.old.nodes.items) links.old.items (all_clean row)) }
     ensures there { OnOk result (AreLinksIn (length table.new.nodes.items) links.new.items) }
     ensures added { AreNodesAdded table.old.nodes.items table.new.nodes.items }
+    ensures all { AreAllLoaded table.old.nodes.items → AreAllLoaded table.new.nodes.items }
     ensures fanout { table.new.fanout ≡ table.old.fanout }
     ensures reads { IsReadOnlyCall (V.state volume.old) (V.state volume.new) result }
 {

@@ -279,7 +279,7 @@ none_filled at i v is = absurd cc
 root_filled : (a b : PagedIndex) (root : Root) → IsIndexKept a b → fits (fanout_of a) (bare (tree_at a.table.nodes.items (Some root))) ≡ true
     → IsFilled (room_now b) (dirty_below a.table.nodes.items (Some root)) (rooms_of (tree_at a.table.nodes.items (Some root))) (rooms_of (tree_at b.table.nodes.items (Some root)))
 root_filled a b root kept fit =
-    let all = all_filled (room_now b) (fanout_of a) [] [] [] a.table.nodes.items b.table.nodes.items refl refl kept.links a.table.loaded b.table.loaded (tables_are a b kept) (none_filled (room_now b)) in
+    let all = all_filled (room_now b) (fanout_of a) [] [] [] a.table.nodes.items b.table.nodes.items refl refl kept.links a.loaded b.loaded (tables_are a b kept) (none_filled (room_now b)) in
     let numbers = dirty_from a.table.nodes.items root.number in
     let P : List ℕ → Type 0 = λ l. IsFilled (room_now b) l (rooms_of (tree_at a.table.nodes.items (Some root))) (rooms_of (tree_at b.table.nodes.items (Some root))) in
     subst P (append-nil numbers) (node_filled (room_now b) (fanout_of a) (node_views a.table.nodes.items) (node_views b.table.nodes.items) (dirty_lists a.table.nodes.items) root.key root.number

@@ -44,7 +44,7 @@ of_medium clean a fanout row nodes root P is h f =
 
 -- nodes in memory are all loaded, so none of them needs to stand on the volume
 pub index_stands : (a : VolumeState) (index : PagedIndex) → DoesIndexStand a index
-index_stands a index = loaded_stand a index.table.nodes.items index.root index.table.loaded
+index_stands a index = loaded_stand a index.table.nodes.items index.root index.loaded
 
 -- ---- changes
 -- what changes make, over the index in memory

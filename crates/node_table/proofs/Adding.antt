@@ -5,12 +5,12 @@ use Rattle.std.proofs.lemmas.List.Elements.{All-push}
 use Rattle.std.proofs.lemmas.List.Folds.{list_all-append}
 use Rattle.std.proofs.lemmas.Option.{slice_get-get_or}
 use Rattle.ubifs_base.specs.declared.key.Key.{Key}
-use Rattle.index_media.specs.KeyedRow.{KeyedRow, no_more, node_in}
+use Rattle.index_media.specs.KeyedRow.{no_more, node_in}
 use Rattle.table_nodes.specs.Beyond.{is_loaded, are_loaded}
-use Rattle.table_nodes.specs.BeyondLaws.{loaded_row}
 use Rattle.table_nodes.specs.Clean.{is_clean_below, are_clean_below}
-use Rattle.table_nodes.specs.NodeView.{node_before, row_of, node_view_of, stretch_at, node_views, tree_at, IsRootIn}
+use Rattle.table_nodes.specs.NodeView.{node_before, node_view_of, stretch_at, node_views, tree_at, IsRootIn}
 use Rattle.table_nodes.specs.Sound.{IsSoundView, AreSoundViews}
+use Rattle.node_table.specs.Unloaded.{is_loaded_if_dirty, are_loaded_if_dirty}
 use Rattle.table_nodes.specs.declared.node.Root.{Root}
 use Rattle.table_nodes.specs.declared.node.TableNode.{TableNode}
 use Rattle.table_nodes.specs.NodeViewLaws.{get_left, get_seam, views_push, views_length}
@@ -29,14 +29,13 @@ pushed_kept nodes n (Some root) h =
     let after = ap (λ w. slice_get w root.number) (views_push nodes n) ∙ get_left seen (v ∷ []) root.number _ there in
     ap (λ o. node_before root.key o no_more) (after ∙ sym there)
 
-pub pushed_made : (nodes : List TableNode) (n : TableNode) (key : Key) (number : ℕ) → number ≡ length nodes → is_loaded n ≡ true
-    → tree_at (nodes ++ n ∷ []) (Some (record { key = key; number = number })) ≡ node_in key (stretch_at n.place) (row_of (node_views nodes) n.links.items) no_more
-pushed_made nodes n key number e l =
+pub pushed_made : (nodes : List TableNode) (n : TableNode) (key : Key) (number : ℕ) → number ≡ length nodes
+    → tree_at (nodes ++ n ∷ []) (Some (record { key = key; number = number })) ≡ node_in key (stretch_at n.place) (node_view_of (node_views nodes) n).children no_more
+pushed_made nodes n key number e =
     let seen = node_views nodes in
     let v = node_view_of seen n in
     let place : number ≡ length seen = e ∙ sym (views_length nodes) in
     ap (λ o. node_before key o no_more) (ap (λ w. slice_get w number) (views_push nodes n) ∙ ap (λ k. slice_get (seen ++ v ∷ []) k) place ∙ get_seam seen v [])
-    ∙ ap (λ (r : KeyedRow). node_in key (stretch_at n.place) r no_more) (loaded_row seen n l)
 
 -- the table after a node that may have found no memory
 pub after_push : (fanout : ℕ) (nodes new : List TableNode) (n : TableNode) (b : Bool) → new ≡ (if b then nodes ++ n ∷ [] else nodes) → AreSoundViews fanout (node_views nodes)
@@ -58,5 +57,12 @@ after_push_loaded nodes new n true e s h =
     let one : are_loaded (n ∷ []) ≡ true = rw h refl in
     ap are_loaded e ∙ list_all-append is_loaded nodes (n ∷ []) ∙ rw (s, one) refl
 after_push_loaded nodes new n false e s h = ap are_loaded e ∙ s
+
+pub after_push_dirty : (nodes new : List TableNode) (n : TableNode) (b : Bool) → new ≡ (if b then nodes ++ n ∷ [] else nodes) → are_loaded_if_dirty nodes ≡ true → is_loaded_if_dirty n ≡ true
+    → are_loaded_if_dirty new ≡ true
+after_push_dirty nodes new n true e s h =
+    let one : are_loaded_if_dirty (n ∷ []) ≡ true = rw h refl in
+    ap are_loaded_if_dirty e ∙ list_all-append is_loaded_if_dirty nodes (n ∷ []) ∙ rw (s, one) refl
+after_push_dirty nodes new n false e s h = ap are_loaded_if_dirty e ∙ s
 
 pub ruleset adding = (pushed_sound, pushed_kept, pushed_made, views_push)

@@ -19,6 +19,7 @@ use Rattle.table_nodes.specs.NodeView.{NodeView, stretch_at, node_before, linked
 use Rattle.node_table.specs.Placing.{with_place, IsPlacedRow}
 use Rattle.table_nodes.specs.Sound.{IsSoundView, AreSoundViews}
 use Rattle.node_table.specs.Staging.{IsSoundRoot}
+use Rattle.node_table.specs.Unloaded.{is_loaded_if_dirty, are_loaded_if_dirty}
 use Rattle.table_nodes.specs.declared.link.Link.{Link}
 use Rattle.table_nodes.specs.declared.link.Link.TheVariants.{ToLeaf, ToNode}
 use Rattle.table_nodes.specs.declared.node.NodePlace.{NodePlace}
@@ -238,6 +239,27 @@ pub with_loaded : (number : ℕ) (p : NodePlace) (nodes : List TableNode) → ar
 with_loaded number p [] = refl
 with_loaded zero p (n ∷ ns) = refl
 with_loaded (suc k) p (n ∷ ns) = ap (λ (b : Bool). is_loaded n && b) (with_loaded k p ns)
+
+-- a node that is dirty is loaded, and so it is where others get places
+pub with_loaded_if_dirty : (number : ℕ) (p : NodePlace) (nodes : List TableNode) → are_loaded_if_dirty nodes ≡ true → are_loaded_if_dirty (with_place number p nodes) ≡ true
+with_loaded_if_dirty number p [] h = refl
+with_loaded_if_dirty zero p (n ∷ ns) h = and_right (is_loaded_if_dirty n) (are_loaded_if_dirty ns) h
+with_loaded_if_dirty (suc k) p (n ∷ ns) h =
+    let own = and_left (is_loaded_if_dirty n) (are_loaded_if_dirty ns) h in
+    let more = with_loaded_if_dirty k p ns (and_right (is_loaded_if_dirty n) (are_loaded_if_dirty ns) h) in
+    rw (own, more) refl
+
+loaded_without : (n : TableNode) (place : Option NodePlace) → place ≡ None → (is_some place || is_loaded n) ≡ true → is_loaded n ≡ true
+loaded_without n None e h = h
+loaded_without n (Some p) e h = absurd cc
+
+pub dirty_loaded : (nodes : List TableNode) (i : ℕ) (n : TableNode) → are_loaded_if_dirty nodes ≡ true → slice_get nodes i ≡ Some n → n.place ≡ None → is_loaded n ≡ true
+dirty_loaded [] i n h e d = absurd cc
+dirty_loaded (m ∷ ms) zero n h e d =
+    let same : m ≡ n = cc in
+    let P : TableNode → Type 0 = λ x. is_loaded_if_dirty x ≡ true in
+    loaded_without n n.place d (subst P same (and_left (is_loaded_if_dirty m) (are_loaded_if_dirty ms) h))
+dirty_loaded (m ∷ ms) (suc i) n h e d = dirty_loaded ms i n (and_right (is_loaded_if_dirty m) (are_loaded_if_dirty ms) h) e d
 
 pub there_placed : (old new : List TableNode) (root : Option Root) → length new ≡ length old → IsRootIn old root → IsRootIn new root
 there_placed old new None l h = tt

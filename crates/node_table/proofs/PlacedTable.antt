@@ -1,8 +1,7 @@
 -- A table in which a node that was ready has got a place.
-use Rattle.std.proofs.Common.{◌≡◌, ℕ, zero, suc, ◌≤◌, ◌<◌, ◌∙◌, true, List, [], ◌∷◌, length, refl, ap, sym, arith}
+use Rattle.std.proofs.Common.{◌≡◌, ℕ, zero, suc, ◌≤◌, ◌<◌, true, List, [], ◌∷◌, length, refl, ap, sym, arith}
 use Rattle.std.specs.Prelude.{Option, Some, map, slice_get, slice_set}
-use Rattle.table_nodes.specs.Beyond.{are_loaded}
-use Rattle.table_nodes.specs.BeyondLaws.{loaded_at}
+use Rattle.node_table.specs.Unloaded.{are_loaded_if_dirty}
 use Rattle.node_table.specs.Clean.{IsReadyNode}
 use Rattle.table_nodes.specs.Clean.{are_clean_below}
 use Rattle.node_table.specs.Dirty.{dirty_below, dirty_lists}
@@ -15,7 +14,7 @@ use Rattle.table_nodes.specs.declared.node.Root.{Root}
 use Rattle.table_nodes.specs.declared.node.TableNode.{TableNode}
 use Rattle.node_table.proofs.Cleaning.{ready_node}
 use Rattle.node_table.proofs.DirtyLists.{dirty_given, lists_given}
-use Rattle.node_table.proofs.GivenPlaces.{placed_views, placed_tree, views_sound, views_settled, root_placed, with_length, with_loaded}
+use Rattle.node_table.proofs.GivenPlaces.{placed_views, placed_tree, views_sound, views_settled, root_placed, with_length, dirty_loaded}
 
 -- one element of a list, changed
 pub put_there : (nodes : List TableNode) (i : ℕ) (n : TableNode) (p : NodePlace) → slice_get nodes i ≡ Some n → slice_set nodes i (record n { place = Some p }) ≡ with_place i p nodes
@@ -31,7 +30,6 @@ put_past (m ∷ ms) (suc i) p h = ap (λ (ns : List TableNode). m ∷ ns) (put_p
 pub record TablePlaced (f : ℕ) (nodes : List TableNode) (number : ℕ) (p : NodePlace) : Type 0 where
   pub sound : AreSoundViews f (node_views (with_place number p nodes))
   pub settled : are_clean_below (node_views (with_place number p nodes)) ≡ true
-  pub loaded : are_loaded (with_place number p nodes) ≡ true
   pub lists : dirty_lists (with_place number p nodes) ≡ map (without_number number) (dirty_lists nodes)
   pub trees : (root : Option Root) → IsPlacedRow p (children_in (slice_get (node_views nodes) number)) (tree_at nodes root) (tree_at (with_place number p nodes) root)
   pub dirty : (root : Option Root) → dirty_below (with_place number p nodes) root ≡ without_number number (dirty_below nodes root)
@@ -42,18 +40,17 @@ there_of [] i h = absurd (omega (arith, h))
 there_of (m ∷ ms) zero h = (m, refl)
 there_of (m ∷ ms) (suc i) h = there_of ms i (omega (arith, h))
 
-pub table_placed : (f : ℕ) (nodes : List TableNode) (number : ℕ) (p : NodePlace) → AreSoundViews f (node_views nodes) → are_clean_below (node_views nodes) ≡ true → are_loaded nodes ≡ true → IsReadyNode nodes number → TablePlaced f nodes number p
+pub table_placed : (f : ℕ) (nodes : List TableNode) (number : ℕ) (p : NodePlace) → AreSoundViews f (node_views nodes) → are_clean_below (node_views nodes) ≡ true → are_loaded_if_dirty nodes ≡ true → IsReadyNode nodes number → TablePlaced f nodes number p
 table_placed f nodes number p s t l r =
     let found = there_of nodes number r.there in
     let n = found.0 in
     let ready = ready_node f nodes number n s r found.1 in
     let below = children_in (slice_get (node_views nodes) number) in
     let new = with_place number p nodes in
-    let h = placed_views nodes number p n found.1 ready.dirty (loaded_at nodes number n l found.1) in
+    let h = placed_views nodes number p n found.1 ready.dirty (dirty_loaded nodes number n l found.1 ready.dirty) in
     record {
       sound = views_sound f p below (node_views nodes) (node_views new) h s;
       settled = views_settled p below (node_views nodes) (node_views new) r.below h t;
-      loaded = with_loaded number p nodes ∙ l;
       lists = lists_given nodes number p n found.1 ready.dirty ready.alone;
       trees = λ root. placed_tree p below nodes new root h;
       dirty = λ root. dirty_given nodes number p n root found.1 ready.dirty ready.alone;

@@ -1,8 +1,9 @@
 -- Nodes of a table that aren't loaded: they stand on a volume where they were met. Loaded nodes needn't stand.
-use Rattle.std.specs.Prelude.{◌≡◌, ℕ, List, Option, Some, slice_get}
+use Rattle.std.specs.Prelude.{◌≡◌, ◌||◌, ℕ, Bool, true, List, Option, Some, is_some, slice_get}
+use Rattle.std.specs.List.{list_all}
 use Rattle.index_media.specs.KeyedRow.{no_more}
 use Rattle.node_cache.specs.OnVolume.{IsOnVolume}
-use Rattle.table_nodes.specs.Beyond.{branch_at_place}
+use Rattle.table_nodes.specs.Beyond.{are_loaded, branch_at_place, is_loaded}
 use Rattle.table_nodes.specs.NodeView.{node_before, linked_before, row_of, node_views, tree_at}
 use Rattle.table_nodes.specs.Stubs.{unplaced, IsStubOf}
 use Rattle.table_nodes.specs.declared.link.Link.{Link}
@@ -12,6 +13,18 @@ use Rattle.table_nodes.specs.declared.stub_node.StubNode.{StubNode}
 use Rattle.ubi_volume.specs.Volume.{VolumeState}
 use Rattle.ubifs_base.specs.declared.key.Key.{Key}
 use Rattle.node_table.specs.declared.opening.Unloaded.{Unloaded}
+
+-- all of these nodes are loaded
+abbrev pub AreAllLoaded : List TableNode → Type 0
+AreAllLoaded nodes = are_loaded nodes ≡ true
+
+-- whether a node is loaded if it is dirty
+abbrev pub is_loaded_if_dirty : TableNode → Bool
+is_loaded_if_dirty node = is_some node.place || is_loaded node
+
+-- whether each of these nodes is
+abbrev pub are_loaded_if_dirty : List TableNode → Bool
+are_loaded_if_dirty nodes = list_all is_loaded_if_dirty nodes
 
 -- those below a root stand there
 abbrev pub DoesRootStand : VolumeState → List TableNode → Option Root → Type 0

@@ -8,6 +8,7 @@ ghost use Rattle.index_media.specs.KeyedKeys.{AreKeysBounded};
 ghost use Rattle.index_media.specs.KeyedRemoval.{replaced_by_keys};
 ghost use Rattle.index_media.specs.KeyedRow.{KeyedRow, no_more, bare};
 ghost use Rattle.node_table.specs.Exchange.{IsExchange, exchanged_row, exchanged_node, links_to};
+ghost use Rattle.node_table.specs.Unloaded.{AreAllLoaded};
 ghost use Rattle.table_nodes.specs.NodeView.{node_views, row_of, children_in};
 ghost use Rattle.table_nodes.specs.Sound.{IsSoundView};
 ghost use Rattle.table_nodes.specs.Links.{row_before, AreLinksIn, AreNodesAdded};
@@ -63,10 +64,12 @@ impl NodeTable {
         requires top { top.number < length self.old.nodes.items }
         requires there { AreLinksIn (length self.old.nodes.items) made.old.items }
         requires key { IsExchange gone.now come }
+        requires loaded { AreAllLoaded self.old.nodes.items }
         ensures found { IfOk result (λ found. found ≡ holds gone.now (contents (bare (children_in (slice_get (node_views self.old.nodes.items) top.number))))) }
         ensures made { (rest : KeyedRow) → OnOk result (row_before (node_views self.new.nodes.items) made.new.items rest ≡ row_before (node_views self.old.nodes.items) made.old.items (exchanged_node gone.now come top.key (slice_get (node_views self.old.nodes.items) top.number) rest)) }
         ensures there { OnOk result (AreLinksIn (length self.new.nodes.items) made.new.items) }
         ensures added { AreNodesAdded self.old.nodes.items self.new.nodes.items }
+        ensures loaded { AreAllLoaded self.new.nodes.items }
         ensures fanout { self.new.fanout ≡ self.old.fanout }
     {
         exchange_keeps_nodes();
@@ -100,10 +103,12 @@ impl NodeTable {
         requires bounded { AreKeysBounded 0 None (row_of (node_views self.old.nodes.items) links.now) }
         requires there { AreLinksIn (length self.old.nodes.items) made.old.items }
         requires key { IsExchange gone.now come }
+        requires loaded { AreAllLoaded self.old.nodes.items }
         ensures found { IfOk result (λ found. found ≡ holds gone.now (contents (bare (row_of (node_views self.old.nodes.items) links.now)))) }
         ensures made { OnOk result (row_before (node_views self.new.nodes.items) made.new.items no_more ≡ row_before (node_views self.old.nodes.items) made.old.items (exchanged_row gone.now come (row_of (node_views self.old.nodes.items) links.now))) }
         ensures there { OnOk result (AreLinksIn (length self.new.nodes.items) made.new.items) }
         ensures added { AreNodesAdded self.old.nodes.items self.new.nodes.items }
+        ensures loaded { AreAllLoaded self.new.nodes.items }
         ensures fanout { self.new.fanout ≡ self.old.fanout }
     {
         match links.split_first() {

@@ -4,6 +4,7 @@ ghost use Rattle.std.specs.Prelude.{◌≡◌, ◌<◌, true, IfOk, OnOk, Option
 ghost use Rattle.index_tree.specs.Shape.{fits};
 ghost use Rattle.index_media.specs.Insertion.{first_key, inserted_by_keys, keyed_parted, lowered};
 ghost use Rattle.index_media.specs.KeyedRow.{KeyedRow, no_more, node_in, bare};
+ghost use Rattle.node_table.specs.Unloaded.{AreAllLoaded};
 ghost use Rattle.table_nodes.specs.NodeView.{NodeView, link_key, node_views, row_of, children_in, tree_at, IsRootIn};
 ghost use Rattle.table_nodes.specs.Sound.{IsSoundView};
 ghost use Rattle.table_nodes.specs.Links.{row_before, AreLinksIn, AreNodesAdded};
@@ -38,9 +39,11 @@ impl NodeTable {
     ) -> Result<(), Memory>
         requires sound { IsSoundView self.old.fanout (record { level = level; place = None; children = row_of (node_views self.old.nodes.items) links.items }) }
         requires there { AreLinksIn (length self.old.nodes.items) made.old.items }
+        requires loaded { AreAllLoaded self.old.nodes.items }
         ensures made { (rest : KeyedRow) → OnOk result (row_before (node_views self.new.nodes.items) made.new.items rest ≡ row_before (node_views self.old.nodes.items) made.old.items (node_in key None (row_of (node_views self.old.nodes.items) links.items) rest)) }
         ensures there { OnOk result (AreLinksIn (length self.new.nodes.items) made.new.items) }
         ensures added { AreNodesAdded self.old.nodes.items self.new.nodes.items }
+        ensures loaded { AreAllLoaded self.new.nodes.items }
         ensures fanout { self.new.fanout ≡ self.old.fanout }
     {
         let number = self.add(TableNode {
@@ -64,9 +67,11 @@ impl NodeTable {
     ) -> Result<(), Memory>
         requires grown { IsGrownRow self.old.fanout level (row_of (node_views self.old.nodes.items) links.now) }
         requires there { AreLinksIn (length self.old.nodes.items) made.old.items }
+        requires loaded { AreAllLoaded self.old.nodes.items }
         ensures made { (rest : KeyedRow) → OnOk result (row_before (node_views self.new.nodes.items) made.new.items rest ≡ row_before (node_views self.old.nodes.items) made.old.items (keyed_parted self.old.fanout key (row_of (node_views self.old.nodes.items) links.now) rest)) }
         ensures there { OnOk result (AreLinksIn (length self.new.nodes.items) made.new.items) }
         ensures added { AreNodesAdded self.old.nodes.items self.new.nodes.items }
+        ensures loaded { AreAllLoaded self.new.nodes.items }
         ensures fanout { self.new.fanout ≡ self.old.fanout }
     {
         if links.len() <= self.fanout as usize {
@@ -125,6 +130,7 @@ fn goes_on(link: &Link, rest: &[Link], leaf: &Leaf) -> bool
 impl NodeTable {
     /// A copy of a node, without its place.
     pub(crate) fn copy_of(&self, alloc: Global, number: u64) -> Result<TableNode, Memory>
+        requires loaded { AreAllLoaded self.now.nodes.items }
         ensures children { IfOk result (λ node. children_in (slice_get (node_views self.now.nodes.items) number) ≡ row_of (node_views self.now.nodes.items) node.links.items) }
         ensures sound { IfOk result (λ node. IsSoundView self.now.fanout (record { level = node.level; place = None; children = row_of (node_views self.now.nodes.items) node.links.items })) }
     {
@@ -153,9 +159,11 @@ impl NodeTable {
     ) -> Result<(), Memory>
         requires there { AreLinksIn (length self.old.nodes.items) made.old.items }
         requires key { IsKey leaf.key }
+        requires loaded { AreAllLoaded self.old.nodes.items }
         ensures made { (rest : KeyedRow) → OnOk result (row_before (node_views self.new.nodes.items) made.new.items rest ≡ row_before (node_views self.old.nodes.items) made.old.items (keyed_parted self.old.fanout (lowered leaf top.key) (inserted_by_keys self.old.fanout leaf (children_in (slice_get (node_views self.old.nodes.items) top.number))) rest)) }
         ensures there { OnOk result (AreLinksIn (length self.new.nodes.items) made.new.items) }
         ensures added { AreNodesAdded self.old.nodes.items self.new.nodes.items }
+        ensures loaded { AreAllLoaded self.new.nodes.items }
         ensures fanout { self.new.fanout ≡ self.old.fanout }
     {
         let node = self.copy_of(alloc, top.number)?;
@@ -182,9 +190,11 @@ impl NodeTable {
         requires sound { fits self.old.fanout (bare (row_of (node_views self.old.nodes.items) links.now)) ≡ true }
         requires there { AreLinksIn (length self.old.nodes.items) made.old.items }
         requires key { IsKey leaf.key }
+        requires loaded { AreAllLoaded self.old.nodes.items }
         ensures made { OnOk result (row_before (node_views self.new.nodes.items) made.new.items no_more ≡ row_before (node_views self.old.nodes.items) made.old.items (inserted_by_keys self.old.fanout leaf (row_of (node_views self.old.nodes.items) links.now))) }
         ensures there { OnOk result (AreLinksIn (length self.new.nodes.items) made.new.items) }
         ensures added { AreNodesAdded self.old.nodes.items self.new.nodes.items }
+        ensures loaded { AreAllLoaded self.new.nodes.items }
         ensures fanout { self.new.fanout ≡ self.old.fanout }
     {
         match links.split_first() {
@@ -222,9 +232,11 @@ impl NodeTable {
         leaf: Leaf,
     ) -> Result<Vec<Link>, Memory>
         requires key { IsKey leaf.key }
+        requires loaded { AreAllLoaded self.old.nodes.items }
         ensures made { IfOk result (λ links. row_of (node_views self.new.nodes.items) links.items ≡ inserted_by_keys self.old.fanout leaf (tree_at self.old.nodes.items root)) }
         ensures kept { (other : Option ARoot) → IsRootIn self.old.nodes.items other → tree_at self.new.nodes.items other ≡ tree_at self.old.nodes.items other }
         ensures added { AreNodesAdded self.old.nodes.items self.new.nodes.items }
+        ensures loaded { AreAllLoaded self.new.nodes.items }
         ensures fanout { self.new.fanout ≡ self.old.fanout }
     {
         let mut made = Vec::new(alloc);

@@ -6,6 +6,7 @@ ghost use Rattle.index_tree.specs.Shape.{contents, count, fits};
 ghost use Rattle.index_media.specs.KeyedKeys.{AreKeysBounded};
 ghost use Rattle.index_media.specs.KeyedRange.{pruned_by_keys};
 ghost use Rattle.index_media.specs.KeyedRow.{KeyedRow, no_more, bare};
+ghost use Rattle.node_table.specs.Unloaded.{AreAllLoaded};
 ghost use Rattle.table_nodes.specs.NodeView.{node_views, row_of, children_in};
 ghost use Rattle.node_table.specs.Pruning.{pruned_link, pruned_node};
 ghost use Rattle.table_nodes.specs.Sound.{IsSoundView};
@@ -58,10 +59,12 @@ impl NodeTable {
     ) -> Result<u64, Memory>
         requires top { top.number < length self.old.nodes.items }
         requires there { AreLinksIn (length self.old.nodes.items) made.old.items }
+        requires loaded { AreAllLoaded self.old.nodes.items }
         ensures gone { IfOk result (λ gone. gone ≡ min (length (within_range from to (contents (bare (children_in (slice_get (node_views self.old.nodes.items) top.number)))))) (2 ^ 64 - 1)) }
         ensures made { (rest : KeyedRow) → OnOk result (row_before (node_views self.new.nodes.items) made.new.items rest ≡ row_before (node_views self.old.nodes.items) made.old.items (pruned_node from to top.key (slice_get (node_views self.old.nodes.items) top.number) rest)) }
         ensures there { OnOk result (AreLinksIn (length self.new.nodes.items) made.new.items) }
         ensures added { AreNodesAdded self.old.nodes.items self.new.nodes.items }
+        ensures loaded { AreAllLoaded self.new.nodes.items }
         ensures fanout { self.new.fanout ≡ self.old.fanout }
     {
         pruning_keeps_nodes();
@@ -95,10 +98,12 @@ impl NodeTable {
         requires sound { fits self.old.fanout (bare (row_of (node_views self.old.nodes.items) links.now)) ≡ true }
         requires bounded { AreKeysBounded 0 None (row_of (node_views self.old.nodes.items) links.now) }
         requires there { AreLinksIn (length self.old.nodes.items) made.old.items }
+        requires loaded { AreAllLoaded self.old.nodes.items }
         ensures gone { IfOk result (λ gone. gone ≡ min (length (within_range from to (contents (bare (row_of (node_views self.old.nodes.items) links.now))))) (2 ^ 64 - 1)) }
         ensures made { OnOk result (row_before (node_views self.new.nodes.items) made.new.items no_more ≡ row_before (node_views self.old.nodes.items) made.old.items (pruned_by_keys from to (row_of (node_views self.old.nodes.items) links.now))) }
         ensures there { OnOk result (AreLinksIn (length self.new.nodes.items) made.new.items) }
         ensures added { AreNodesAdded self.old.nodes.items self.new.nodes.items }
+        ensures loaded { AreAllLoaded self.new.nodes.items }
         ensures fanout { self.new.fanout ≡ self.old.fanout }
     {
         pruning_keeps_nodes();
@@ -132,10 +137,12 @@ impl NodeTable {
     ) -> Result<u64, Memory>
         requires link { IsLinkIn (length self.old.nodes.items) link.now }
         requires there { AreLinksIn (length self.old.nodes.items) made.old.items }
+        requires loaded { AreAllLoaded self.old.nodes.items }
         ensures gone { IfOk result (λ gone. gone ≡ min (length (within_range from to (contents (bare (inside (node_views self.old.nodes.items) link.now))))) (2 ^ 64 - 1)) }
         ensures made { (rest : KeyedRow) → OnOk result (row_before (node_views self.new.nodes.items) made.new.items rest ≡ row_before (node_views self.old.nodes.items) made.old.items (pruned_link from to (node_views self.old.nodes.items) link.now rest)) }
         ensures there { OnOk result (AreLinksIn (length self.new.nodes.items) made.new.items) }
         ensures added { AreNodesAdded self.old.nodes.items self.new.nodes.items }
+        ensures loaded { AreAllLoaded self.new.nodes.items }
         ensures fanout { self.new.fanout ≡ self.old.fanout }
     {
         match *link {

@@ -4,6 +4,7 @@ ghost use Rattle.std.specs.Prelude.{◌≡◌, ◌-◌, ◌^◌, min, IfOk, leng
 ghost use Rattle.index_tree.specs.Order.{key_rank};
 ghost use Rattle.index_tree.specs.RangeRemoval.{within_range};
 ghost use Rattle.index_media.specs.KeyedRange.{without_range_by_keys};
+ghost use Rattle.node_table.specs.Unloaded.{AreAllLoaded};
 ghost use Rattle.table_nodes.specs.NodeView.{tree_at, leaves_at};
 ghost use Rattle.table_nodes.specs.Links.{AreNodesAdded};
 ghost use Rattle.node_table.specs.Staging.{IsSoundRoot};
@@ -36,10 +37,12 @@ impl NodeTable {
         to: &Key,
     ) -> Result<RangeRemoved, Memory>
         requires root { IsSoundRoot self.old.nodes.items root }
+        requires loaded { AreAllLoaded self.old.nodes.items }
         ensures made { IfOk result (λ made. tree_at self.new.nodes.items made.root ≡ without_range_by_keys (key_rank from.now) (key_rank to.now) (tree_at self.old.nodes.items root)) }
         ensures number { IfOk result (λ made. made.number ≡ min (length (within_range (key_rank from.now) (key_rank to.now) (leaves_at self.old.nodes.items root))) (2 ^ 64 - 1)) }
         ensures root { IfOk result (λ made. IsSoundRoot self.new.nodes.items made.root) }
         ensures added { AreNodesAdded self.old.nodes.items self.new.nodes.items }
+        ensures loaded { AreAllLoaded self.new.nodes.items }
         ensures fanout { self.new.fanout ≡ self.old.fanout }
     {
         a_range_removal_keeps_what_nodes_are();

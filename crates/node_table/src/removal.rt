@@ -4,6 +4,7 @@ ghost use Rattle.std.specs.Prelude.{◌≡◌, ◌<◌, IfOk, Option, None, Some
 ghost use Rattle.index_tree.specs.Order.{leaf_rank};
 ghost use Rattle.index_media.specs.KeyedRemoval.{keyed_collapsed, replaced_by_keys};
 ghost use Rattle.node_table.specs.Exchange.{tree_without};
+ghost use Rattle.node_table.specs.Unloaded.{AreAllLoaded};
 ghost use Rattle.table_nodes.specs.NodeView.{tree_at, IsRootIn};
 ghost use Rattle.table_nodes.specs.Links.{AreNodesAdded};
 ghost use Rattle.node_table.specs.Staging.{IsSoundRoot};
@@ -25,6 +26,7 @@ impl NodeTable {
     /// The root that is left of one: while a root leads to one node alone, that node takes its place.
     pub(crate) fn sink_root(&self, root: Root) -> Root
         requires there { root.number < length self.now.nodes.items }
+        requires loaded { AreAllLoaded self.now.nodes.items }
         ensures made { tree_at self.now.nodes.items (Some result) ≡ keyed_collapsed (tree_at self.now.nodes.items (Some root)) }
         ensures there { result.number < length self.now.nodes.items }
     {
@@ -46,10 +48,12 @@ impl NodeTable {
         leaf: &Leaf,
     ) -> Result<Option<Root>, Memory>
         requires root { IsSoundRoot self.old.nodes.items root }
+        requires loaded { AreAllLoaded self.old.nodes.items }
         ensures made { IfOk result (λ made. tree_at self.new.nodes.items made ≡ tree_without leaf.now (tree_at self.old.nodes.items root)) }
         ensures root { IfOk result (λ made. IsSoundRoot self.new.nodes.items made) }
         ensures kept { (other : Option ARoot) → IsRootIn self.old.nodes.items other → tree_at self.new.nodes.items other ≡ tree_at self.old.nodes.items other }
         ensures added { AreNodesAdded self.old.nodes.items self.new.nodes.items }
+        ensures loaded { AreAllLoaded self.new.nodes.items }
         ensures fanout { self.new.fanout ≡ self.old.fanout }
     {
         a_removal_keeps_what_nodes_are();
@@ -80,10 +84,12 @@ impl NodeTable {
     ) -> Result<Option<Root>, Memory>
         requires root { IsSoundRoot self.old.nodes.items root }
         requires key { (leaf_rank new ≡ leaf_rank leaf.now) × IsKey new.key }
+        requires loaded { AreAllLoaded self.old.nodes.items }
         ensures made { IfOk result (λ made. tree_at self.new.nodes.items made ≡ replaced_by_keys leaf.now new (tree_at self.old.nodes.items root)) }
         ensures root { IfOk result (λ made. IsSoundRoot self.new.nodes.items made) }
         ensures kept { (other : Option ARoot) → IsRootIn self.old.nodes.items other → tree_at self.new.nodes.items other ≡ tree_at self.old.nodes.items other }
         ensures added { AreNodesAdded self.old.nodes.items self.new.nodes.items }
+        ensures loaded { AreAllLoaded self.new.nodes.items }
         ensures fanout { self.new.fanout ≡ self.old.fanout }
     {
         a_replacement_keeps_what_nodes_are();

@@ -2,6 +2,7 @@
 
 ghost use Rattle.std.specs.Prelude.{◌≡◌, ◌+◌, IfOk, Option, Some};
 ghost use Rattle.index_media.specs.Insertion.{with_leaf_by_keys};
+ghost use Rattle.node_table.specs.Unloaded.{AreAllLoaded};
 ghost use Rattle.table_nodes.specs.NodeView.{tree_at, IsRootIn};
 ghost use Rattle.table_nodes.specs.Links.{AreNodesAdded};
 ghost use Rattle.node_table.specs.Staging.{only_root, IsSoundRoot, IsTopRow};
@@ -63,10 +64,12 @@ impl NodeTable {
     pub fn insert(&mut self, alloc: Global, root: Option<Root>, leaf: Leaf) -> Result<Root, Memory>
         requires root { IsSoundRoot self.old.nodes.items root }
         requires key { IsKey leaf.key }
+        requires loaded { AreAllLoaded self.old.nodes.items }
         ensures made { IfOk result (λ made. tree_at self.new.nodes.items (Some made) ≡ with_leaf_by_keys self.old.fanout leaf (tree_at self.old.nodes.items root)) }
         ensures root { IfOk result (λ made. IsSoundRoot self.new.nodes.items (Some made)) }
         ensures kept { (other : Option ARoot) → IsRootIn self.old.nodes.items other → tree_at self.new.nodes.items other ≡ tree_at self.old.nodes.items other }
         ensures added { AreNodesAdded self.old.nodes.items self.new.nodes.items }
+        ensures loaded { AreAllLoaded self.new.nodes.items }
         ensures fanout { self.new.fanout ≡ self.old.fanout }
     {
         let level = self.level_above(root)?;

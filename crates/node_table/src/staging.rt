@@ -2,6 +2,7 @@
 
 ghost use Rattle.std.specs.Prelude.{◌≡◌, IfOk, OnErr};
 ghost use Rattle.node_table.specs.Changing.{IsChange, AreChanges, changed_row, changed_by, leaves_after_change, leaves_after_all};
+ghost use Rattle.node_table.specs.Unloaded.{AreAllLoaded};
 ghost use Rattle.table_nodes.specs.NodeView.{tree_at, leaves_at};
 ghost use Rattle.table_nodes.specs.Links.{AreNodesAdded};
 ghost use Rattle.node_table.specs.Staging.{IsSoundRoot};
@@ -27,10 +28,12 @@ impl NodeTable {
     ) -> Result<Option<Root>, Memory>
         requires root { IsSoundRoot self.old.nodes.items root }
         requires change { IsChange change.now }
+        requires loaded { AreAllLoaded self.old.nodes.items }
         ensures made { IfOk result (λ made. tree_at self.new.nodes.items made ≡ changed_row self.old.fanout change.now (tree_at self.old.nodes.items root)) }
         ensures leaves { IfOk result (λ made. leaves_at self.new.nodes.items made ≡ leaves_after_change change.now (leaves_at self.old.nodes.items root)) }
         ensures root { IfOk result (λ made. IsSoundRoot self.new.nodes.items made) }
         ensures added { AreNodesAdded self.old.nodes.items self.new.nodes.items }
+        ensures loaded { AreAllLoaded self.new.nodes.items }
         ensures fanout { self.new.fanout ≡ self.old.fanout }
     {
         an_insertion_goes_by_the_keys_of_branches();
@@ -60,10 +63,12 @@ impl NodeTable {
     ) -> Result<Option<Root>, Memory>
         requires root { IsSoundRoot self.old.nodes.items root }
         requires changes { AreChanges changes.now }
+        requires loaded { AreAllLoaded self.old.nodes.items }
         ensures made { IfOk result (λ made. tree_at self.new.nodes.items made ≡ changed_by self.old.fanout changes.now (tree_at self.old.nodes.items root)) }
         ensures leaves { IfOk result (λ made. leaves_at self.new.nodes.items made ≡ leaves_after_all changes.now (leaves_at self.old.nodes.items root)) }
         ensures root { IfOk result (λ made. IsSoundRoot self.new.nodes.items made) }
         ensures added { AreNodesAdded self.old.nodes.items self.new.nodes.items }
+        ensures loaded { AreAllLoaded self.new.nodes.items }
         ensures fanout { self.new.fanout ≡ self.old.fanout }
     {
         let mut made = root;
@@ -85,11 +90,13 @@ impl NodeTable {
     ) -> Result<Option<Root>, Memory>
         requires root { IsSoundRoot self.old.nodes.items root }
         requires changes { AreChanges changes.now }
+        requires loaded { AreAllLoaded self.old.nodes.items }
         ensures made { IfOk result (λ made. tree_at self.new.nodes.items made ≡ changed_by self.old.fanout changes.now (tree_at self.old.nodes.items root)) }
         ensures leaves { IfOk result (λ made. leaves_at self.new.nodes.items made ≡ leaves_after_all changes.now (leaves_at self.old.nodes.items root)) }
         ensures root { IfOk result (λ made. IsSoundRoot self.new.nodes.items made) }
         ensures added { AreNodesAdded self.old.nodes.items self.new.nodes.items }
         ensures err { OnErr result (self.new.nodes.items ≡ self.old.nodes.items) }
+        ensures loaded { AreAllLoaded self.new.nodes.items }
         ensures fanout { self.new.fanout ≡ self.old.fanout }
     {
         let number = self.nodes.len();

@@ -8,12 +8,12 @@ ghost use Rattle.index_tree.specs.Removal.{holds};
 ghost use Rattle.index_media.specs.KeyedRow.{no_more, node_in};
 ghost use Rattle.node_cache.specs.Kept.{AreKept};
 ghost use Rattle.node_cache.specs.Loaded.{IsReadOnlyCall};
-ghost use Rattle.table_nodes.specs.Beyond.{is_loaded, are_loaded};
+ghost use Rattle.table_nodes.specs.Beyond.{is_loaded};
 ghost use Rattle.table_nodes.specs.Clean.{is_clean_below, are_clean_below};
 ghost use Rattle.node_table.specs.Bounds.{AreNoLonger, no_longer-prop};
 ghost use Rattle.node_table.specs.Dirty.{dirty_lists};
-ghost use Rattle.node_table.specs.Unloaded.{DoesRootStand};
-ghost use Rattle.table_nodes.specs.NodeView.{node_views, node_view_of, row_of, stretch_at, tree_at, leaves_at, IsRootIn};
+ghost use Rattle.node_table.specs.Unloaded.{is_loaded_if_dirty, are_loaded_if_dirty, AreAllLoaded, DoesRootStand};
+ghost use Rattle.table_nodes.specs.NodeView.{node_views, node_view_of, stretch_at, tree_at, leaves_at, IsRootIn};
 ghost use Rattle.table_nodes.specs.Sound.{IsSoundView, AreSoundViews, sound_views-prop};
 ghost use Rattle.table_nodes.specs.declared.node.Root.{Root as ARoot};
 ghost use Rattle.ubifs_base.specs.declared.key.Key.{Key as AKey};
@@ -38,7 +38,7 @@ pub struct NodeTable {
     ghost most: { fanout ≤ 256 },
     ghost sound: { AreSoundViews fanout (node_views nodes.items) } by { sound_views-prop fanout (node_views nodes.items) },
     ghost clean: { are_clean_below (node_views nodes.items) ≡ true },
-    ghost loaded: { are_loaded nodes.items ≡ true },
+    ghost dirty: { are_loaded_if_dirty nodes.items ≡ true },
     ghost few: { AreNoLonger (dirty_lists nodes.items) most_dirty.items } by { no_longer-prop (dirty_lists nodes.items) most_dirty.items },
 }
 
@@ -57,17 +57,18 @@ impl NodeTable {
         }
     }
 
-    /// Adds a node that is loaded, whose links lead to leaves or to nodes of the table, and answers its number. If the node is clean, all
-    /// nodes below it are. Below each root stands what stood there.
+    /// Adds a node, and answers its number. Its links lead to leaves or to nodes of the table, or it isn't loaded: then it has a place, and
+    /// shows what it tells. If the node is clean, all nodes below it are. Below each root stands what stood there.
     ///
     /// After `Memory` the table is as before.
     #[tactic(auto, using(crate::proofs::Adding::adding))]
     pub fn add(&mut self, node: TableNode) -> Result<u64, Memory>
         requires sound { IsSoundView self.old.fanout (node_view_of (node_views self.old.nodes.items) node) }
         requires clean { is_clean_below (node_view_of (node_views self.old.nodes.items) node) ≡ true }
-        requires loaded { is_loaded node ≡ true }
-        ensures made { IfOk result (λ number. (key : AKey) → tree_at self.new.nodes.items (Some (record { key = key; number = number })) ≡ node_in key (stretch_at node.place) (row_of (node_views self.old.nodes.items) node.links.items) no_more) }
+        requires dirty { is_loaded_if_dirty node ≡ true }
+        ensures made { IfOk result (λ number. (key : AKey) → tree_at self.new.nodes.items (Some (record { key = key; number = number })) ≡ node_in key (stretch_at node.place) (node_view_of (node_views self.old.nodes.items) node).children no_more) }
         ensures added { OnOk result (self.new.nodes.items ≡ self.old.nodes.items ++ node ∷ []) }
+        ensures loaded { AreAllLoaded self.old.nodes.items → is_loaded node ≡ true → AreAllLoaded self.new.nodes.items }
         ensures number { IfOk result (λ number. number ≡ length self.old.nodes.items) }
         ensures kept { (root : Option ARoot) → IsRootIn self.old.nodes.items root → tree_at self.new.nodes.items root ≡ tree_at self.old.nodes.items root }
         ensures fanout { self.new.fanout ≡ self.old.fanout }
@@ -82,8 +83,9 @@ impl NodeTable {
     /// The leaf of this key behind `nth` others of the same key, below a root; none where there are too few.
     ///
     /// It goes down one path, and where leaves of the key stand in several nodes, on to the next of them. Below a node that isn't loaded
-    /// it goes on on the volume, by the nodes that are kept of it. Nothing is added to the table, and the volume is as it was. What isn't
-    /// loaded still stands where it was met (`stands`). `Memory` and `Volume` are the faults. All of this holds of each look-up.
+    /// it goes on on the volume, by the nodes that are kept of it. Nothing is added to the table, and the volume is as it was. It asks that
+    /// what isn't loaded still stands where it was met (`stands`). `Memory` and `Volume` are the faults. All of this holds of each look-up
+    /// that takes a cache.
     pub fn find<V: Volume>(
         &self,
         alloc: Global,

@@ -5,6 +5,7 @@ use Rattle.index_media.specs.KeyedKeys.{AreKeysBounded}
 use Rattle.index_media.specs.KeyedRow.{KeyedRow, no_more, all_clean}
 use Rattle.index_media.specs.PlacedRow.{ended, node_at, branches_of}
 use Rattle.media_sys.specs.Index.{Index}
+use Rattle.table_nodes.specs.Beyond.{are_loaded}
 use Rattle.node_cache.specs.RowsOn.{row_moved, row_as, below, root_on, clean_bounded}
 use Rattle.index_cache.proofs.Placed.{clean_keys}
 use Rattle.index_cache.proofs.paged.PagedIndex.at_root.Goals as goal
@@ -47,6 +48,7 @@ invariant_of-result g c =
     let B : KeyedRow → Type 0 = λ t. AreKeysBounded 0 None t in
     let K : KeyedRow → Type 0 = λ t. AreKeys t in
     record {
+      loaded = c.in_ok-number.ensures.all (ap are_loaded c.new-table.ensures.empty);
       there = c.in_ok-number.ensures.number;
       bounded = subst B (sym tree) (clean_bounded 0 None row r.on.bounded);
       keys = subst K (sym tree) (clean_keys a.holds (r.level + 1) row r.on.keys r.on.stored);

@@ -8,7 +8,7 @@ invariant_of-self c =
     let added = c.remove_range.ensures.added in
     let root = c.roots_stay.ensures.sound old new s.root added (record { there = s.there; bounded = s.bounded; keys = s.keys }) in
     let frozen = c.roots_stay.ensures.sound old new s.frozen added (record { there = s.frozen_there; bounded = s.frozen_bounded; keys = s.frozen_keys }) in
-    record { there = root.there; bounded = root.bounded; keys = root.keys; frozen_there = frozen.there; frozen_bounded = frozen.bounded; frozen_keys = frozen.keys }
+    record { loaded = c.remove_range.ensures.loaded; there = root.there; bounded = root.bounded; keys = root.keys; frozen_there = frozen.there; frozen_bounded = frozen.bounded; frozen_keys = frozen.keys }
 
 pub invariant_of-self-2 : goal.invariant_of-self-2
 invariant_of-self-2 c =
@@ -17,4 +17,4 @@ invariant_of-self-2 c =
     let new = c.remove_range.new.self.nodes.items in
     let root = c.in_ok-left.ensures.root in
     let frozen = c.roots_stay.ensures.sound old new s.frozen c.remove_range.ensures.added (record { there = s.frozen_there; bounded = s.frozen_bounded; keys = s.frozen_keys }) in
-    record { there = root.there; bounded = root.bounded; keys = root.keys; frozen_there = frozen.there; frozen_bounded = frozen.bounded; frozen_keys = frozen.keys }
+    record { loaded = c.remove_range.ensures.loaded; there = root.there; bounded = root.bounded; keys = root.keys; frozen_there = frozen.there; frozen_bounded = frozen.bounded; frozen_keys = frozen.keys }

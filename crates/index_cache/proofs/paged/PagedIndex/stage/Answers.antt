@@ -8,4 +8,4 @@ invariant_of-self c =
     let added = c.stage.ensures.added in
     let root = c.roots_stay.ensures.sound old new s.root added (record { there = s.there; bounded = s.bounded; keys = s.keys }) in
     let frozen = c.roots_stay.ensures.sound old new s.frozen added (record { there = s.frozen_there; bounded = s.frozen_bounded; keys = s.frozen_keys }) in
-    record { there = root.there; bounded = root.bounded; keys = root.keys; frozen_there = frozen.there; frozen_bounded = frozen.bounded; frozen_keys = frozen.keys }
+    record { loaded = c.stage.ensures.loaded; there = root.there; bounded = root.bounded; keys = root.keys; frozen_there = frozen.there; frozen_bounded = frozen.bounded; frozen_keys = frozen.keys }

@@ -12,7 +12,7 @@ use Rattle.index_cache.proofs.paged.PagedIndex.write_node.Goals as goal
 pub tell_node-requires : goal.tell_node-requires
 tell_node-requires c =
     let t = c.args.self.now.table in
-    let few = few_links t.fanout (node_views t.nodes.items) c.in-Some.found.now t.most c.in-Some.ensures.sound (table_row (node_views t.nodes.items) t.nodes.items c.args.node c.in-Some.found.now t.loaded c.in-Some.ensures.some) in
+    let few = few_links t.fanout (node_views t.nodes.items) c.in-Some.found.now t.most c.in-Some.ensures.sound (table_row (node_views t.nodes.items) t.nodes.items c.args.node c.in-Some.found.now c.args.self.now.loaded c.in-Some.ensures.some) in
     let room = c.args.buffer.now.room in
     omega (arith, few, room)
 
@@ -20,7 +20,7 @@ pub encode-requires-clause-node : goal.encode-requires-clause-node
 encode-requires-clause-node c =
     let t = c.args.self.now.table in
     let v = node_view_of (node_views t.nodes.items) c.in-Some.found.now in
-    let row = table_row (node_views t.nodes.items) t.nodes.items c.args.node c.in-Some.found.now t.loaded c.in-Some.ensures.some in
+    let row = table_row (node_views t.nodes.items) t.nodes.items c.args.node c.in-Some.found.now c.args.self.now.loaded c.in-Some.ensures.some in
     let said = c.tell_node.new.said in
     let yes : c.are_in_order.result ≡ true = search (rules, c.if-not-are_in_order.false) in
     let order : in_order None said.branches.items ≡ true = ap (in_order None) (sym c.as_slice.ensures.value) ∙ sym c.are_in_order.ensures ∙ yes in

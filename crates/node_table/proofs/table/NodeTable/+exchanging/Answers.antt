@@ -37,7 +37,7 @@ exchange_among-exchange_among-requires t c =
           (
             subst P (sym c.in_ok-push-in-Some.ensures.items)
                 (links_in_append (length old) c.args.made.now.items (link ∷ []) c.requires.there (first_there f old link rest c.args.links.now is c.requires.sound, tt)),
-            c.requires.key,
+            (c.requires.key, c.requires.loaded),
           ),
         ),
       ),
@@ -109,7 +109,7 @@ exchange_among-exchange_among-requires-in-ToLeaf t c =
           (
             subst P (sym c.in_ok-push-in-ToLeaf.ensures.items)
                 (links_in_append (length old) c.args.made.now.items (link ∷ []) c.requires.there (first_there f old link rest c.args.links.now is c.requires.sound, tt)),
-            c.requires.key,
+            (c.requires.key, c.requires.loaded),
           ),
         ),
       ),
@@ -125,7 +125,7 @@ exchange_among-exchange_below-requires t c =
     let size = linked_size seen link (row_of seen rest) in
     let same = ap (λ v. row_size (row_of seen v)) is in (
       omega (arith, size, same),
-      (first_there c.args.self.now.fanout old link rest c.args.links.now is c.requires.sound, (c.requires.there, c.requires.key)),
+      (first_there c.args.self.now.fanout old link rest c.args.links.now is c.requires.sound, (c.requires.there, (c.requires.key, c.requires.loaded))),
     )
 
 pub exchange_among-returns-then-branch-clause-found : goal.exchange_among-returns-then-branch-clause-found
@@ -170,7 +170,7 @@ exchange_among-exchange_among-requires-then-begin_within t c =
     let size = linked_size seen link (row_of seen rest) in
     let same = ap (λ v. row_size (row_of seen v)) is in
     let later = ap row_size (row_kept f old now rest added fit) in
-    (omega (arith, size, same, later), (kept.0, (kept.1, (c.in_ok-exchange_below-in-ToNode.ensures.there, c.requires.key))))
+    (omega (arith, size, same, later), (kept.0, (kept.1, (c.in_ok-exchange_below-in-ToNode.ensures.there, (c.requires.key, c.in_ok-exchange_below-in-ToNode.ensures.loaded)))))
 
 pub exchange_among-returns-then-begin_within-clause-found : goal.exchange_among-returns-then-begin_within-clause-found
 exchange_among-returns-then-begin_within-clause-found t c =

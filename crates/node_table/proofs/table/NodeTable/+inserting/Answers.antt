@@ -29,7 +29,7 @@ insert_among-insert_among-requires t c =
         (
           subst P (sym c.in_ok-push-in-Some.ensures.items)
               (links_in_append (length old) c.args.made.now.items (link ∷ []) c.requires.there (first_there f old link rest c.args.links.now is c.requires.sound, tt)),
-          c.requires.key,
+          (c.requires.key, c.requires.loaded),
         ),
       ),
     )

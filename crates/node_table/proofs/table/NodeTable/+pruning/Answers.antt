@@ -36,8 +36,11 @@ prune_among-prune_among-requires t c =
         (rest_fits f seen link rest c.args.links.now is c.requires.sound).1,
         (
           behind_bounded seen link rest c.args.links.now is c.requires.bounded,
-          subst P (sym c.in_ok-push-in-Some.ensures.items)
-              (links_in_append (length old) c.args.made.now.items (link ∷ []) c.requires.there (first_there f old link rest c.args.links.now is c.requires.sound, tt)),
+          (
+            subst P (sym c.in_ok-push-in-Some.ensures.items)
+                (links_in_append (length old) c.args.made.now.items (link ∷ []) c.requires.there (first_there f old link rest c.args.links.now is c.requires.sound, tt)),
+            c.requires.loaded,
+          ),
         ),
       ),
     )
@@ -77,7 +80,7 @@ prune_among-prune_link-requires t c =
     let rest = c.in-Some.rest.now in
     let size = linked_size seen link (row_of seen rest) in
     let same = ap (λ v. row_size (row_of seen v)) is in
-    (omega (arith, size, same), (first_there c.args.self.now.fanout old link rest c.args.links.now is c.requires.sound, c.requires.there))
+    (omega (arith, size, same), (first_there c.args.self.now.fanout old link rest c.args.links.now is c.requires.sound, (c.requires.there, c.requires.loaded)))
 
 pub prune_among-returns-then-not-begin_within-clause-gone : goal.prune_among-returns-then-not-begin_within-clause-gone
 prune_among-returns-then-not-begin_within-clause-gone t c =
@@ -129,7 +132,7 @@ prune_among-prune_among-requires-in-Some t c =
     let size = linked_size seen link (row_of seen rest) in
     let same = ap (λ v. row_size (row_of seen v)) is in
     let later = ap row_size (row_kept f old now rest added fit) in
-    (omega (arith, size, same, later), (kept.0, (kept.1, c.in_ok-here-in-Some.ensures.there)))
+    (omega (arith, size, same, later), (kept.0, (kept.1, (c.in_ok-here-in-Some.ensures.there, c.in_ok-here-in-Some.ensures.loaded))))
 
 pub prune_among-returns-in_ok-behind-in-Some-clause-gone : goal.prune_among-returns-in_ok-behind-in-Some-clause-gone
 prune_among-returns-in_ok-behind-in-Some-clause-gone t c =

@@ -1,21 +1,26 @@
-use Rattle.std.proofs.Common.{◌≡◌, true, ℕ, List, [], ◌∷◌, length, ap, sym, ◌∙◌, subst, arith}
-use Rattle.std.specs.Prelude.{slice_get}
+use Rattle.std.proofs.Common.{◌≡◌, true, false, ℕ, List, [], ◌∷◌, length, refl, ap, sym, ◌∙◌, subst, arith}
+use Rattle.std.specs.Prelude.{Option, None, Some, is_some, slice_get}
 use Rattle.std.proofs.lemmas.Option.{slice_get_within}
 use Rattle.index_tree.specs.Shape.{fits}
 use Rattle.index_media.specs.Clean.{is_clean_row}
 use Rattle.index_media.specs.KeyedRow.{KeyedRow, bare}
-use Rattle.table_nodes.specs.BeyondLaws.{table_row}
+use Rattle.table_nodes.specs.BeyondLaws.{dirty_row}
 use Rattle.node_table.specs.Dirty.{dirty_lists, dirty_among}
-use Rattle.table_nodes.specs.NodeView.{node_views, node_view_of, row_of}
+use Rattle.table_nodes.specs.NodeView.{children_in, node_views, node_view_of, row_of}
 use Rattle.node_table.specs.Pruning.{stretch_in}
 use Rattle.table_nodes.specs.Links.{AreLinksIn}
 use Rattle.table_nodes.specs.declared.link.Link.{Link}
+use Rattle.table_nodes.specs.declared.node.NodePlace.{NodePlace}
 use Rattle.node_table.proofs.Cleaning.{placed_is_clean, placed_list, dirty_list, dirty_view, first_some, first_none}
 use Rattle.node_table.proofs.DirtyLists.{dirty_opened, dirty_past}
 use Rattle.node_table.proofs.Rows.{row_size}
 use Rattle.table_nodes.specs.LinkLaws.{links_there}
 use Rattle.table_nodes.specs.NodeViewLaws.{children_fit, views_length}
 use Rattle.node_table.proofs.table.NodeTable.+seeking.Goals as goal
+
+without_place : (place : Option NodePlace) → is_some place ≡ false → place ≡ None
+without_place None h = refl
+without_place (Some p) h = absurd cc
 
 pub first_dirty-returns-in-None-clause-first : goal.first_dirty-returns-in-None-clause-first
 first_dirty-returns-in-None-clause-first t c = sym (ap (λ (d : List ℕ). slice_get d 0) (dirty_past c.args.self.now.nodes.items c.args.number c.in-None.ensures.none))
@@ -39,8 +44,8 @@ first_dirty-first_dirty_among-requires t c =
     let seen = node_views s.nodes.items in
     let n = c.in-Some.node.now in
     let same = ap (λ v. row_size (row_of seen v)) c.as_slice.ensures.value in
-    let whole = ap row_size c.in-Some.ensures.linked in
-    let row = table_row seen s.nodes.items c.args.number n s.loaded c.in-Some.ensures.some in
+    let row = dirty_row seen n (without_place n.place (sym c.is_some.ensures ∙ c.if-is_some.false)) in
+    let whole = ap row_size (ap children_in c.in-Some.ensures.seen ∙ row) in
     let F : KeyedRow → Type 0 = λ r. fits s.fanout (bare r) ≡ true in
     let there = links_there s.fanout seen n.links.items (subst F row (children_fit s.fanout (node_view_of seen n) c.in-Some.ensures.sound)) in
     let P : List Link → Type 0 = λ v. AreLinksIn (length s.nodes.items) v in
@@ -67,7 +72,7 @@ first_dirty-returns-in-None-first_dirty_among-clause-ready t c =
     record {
       there = slice_get_within s.nodes.items c.args.number n c.in-Some.ensures.some;
       dirty = ap stretch_in c.in-Some.ensures.seen ∙ dirty_view n.place dirty;
-      below = ap is_clean_row c.in-Some.ensures.linked ∙ ap (λ (v : List Link). is_clean_row (row_of seen v)) (sym c.as_slice.ensures.value) ∙ c.in-None-first_dirty_among.ensures.none;
+      below = ap is_clean_row (ap children_in c.in-Some.ensures.seen ∙ dirty_row seen n (without_place n.place dirty)) ∙ ap (λ (v : List Link). is_clean_row (row_of seen v)) (sym c.as_slice.ensures.value) ∙ c.in-None-first_dirty_among.ensures.none;
     }
 
 pub first_dirty-returns-in-Some-first_dirty_among-clause-first : goal.first_dirty-returns-in-Some-first_dirty_among-clause-first

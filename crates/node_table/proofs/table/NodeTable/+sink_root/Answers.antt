@@ -13,4 +13,4 @@ sink_root-requires t c =
     let to = sunk_to nodes c.args.root child links c.in-Some.ensures.some only in
     let fit = links_fit f nodes c.args.root.number links c.args.self.now.sound c.in-Some.ensures.some in
     let small = to.small in
-    (omega (arith, small), only_linked (length nodes) links child (all_there f nodes links fit) only)
+    (omega (arith, small), (only_linked (length nodes) links child (all_there f nodes links fit) only, c.requires.loaded))

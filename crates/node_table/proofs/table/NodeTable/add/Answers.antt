@@ -1,5 +1,5 @@
 use Rattle.std.specs.Prelude.{is_ok}
-use Rattle.node_table.proofs.Adding.{after_push, after_push_loaded, after_push_settled}
+use Rattle.node_table.proofs.Adding.{after_push, after_push_dirty, after_push_settled}
 use Rattle.node_table.proofs.Bounded.{few_pushed}
 use Rattle.node_table.proofs.table.NodeTable.add.Goals as goal
 
@@ -17,6 +17,6 @@ pub invariant_of-self-clause-clean : goal.invariant_of-self-clause-clean
 invariant_of-self-clause-clean c =
     after_push_settled c.args.self.now.nodes.items c.push_both.new.nodes.items c.args.node (is_ok c.push_both.result) c.push_both.ensures.nodes c.args.self.now.clean c.requires.clean
 
-pub invariant_of-self-clause-loaded : goal.invariant_of-self-clause-loaded
-invariant_of-self-clause-loaded c =
-    after_push_loaded c.args.self.now.nodes.items c.push_both.new.nodes.items c.args.node (is_ok c.push_both.result) c.push_both.ensures.nodes c.args.self.now.loaded c.requires.loaded
+pub invariant_of-self-clause-dirty : goal.invariant_of-self-clause-dirty
+invariant_of-self-clause-dirty c =
+    after_push_dirty c.args.self.now.nodes.items c.push_both.new.nodes.items c.args.node (is_ok c.push_both.result) c.push_both.ensures.nodes c.args.self.now.dirty c.requires.dirty

@@ -10,7 +10,7 @@ use Rattle.node_table.proofs.table.NodeTable.copy_of.Goals as goal
 pub returns-in_ok-links-in-Some-clause-children : goal.returns-in_ok-links-in-Some-clause-children
 returns-in_ok-links-in-Some-clause-children c =
     let nodes = c.args.self.now.nodes.items in
-    let o = opened_node c.args.self.now.fanout nodes c.args.number c.in-Some.node.now c.args.self.now.sound c.in-Some.ensures.some (loaded_at nodes c.args.number c.in-Some.node.now c.args.self.now.loaded c.in-Some.ensures.some) in
+    let o = opened_node c.args.self.now.fanout nodes c.args.number c.in-Some.node.now c.args.self.now.sound c.in-Some.ensures.some (loaded_at nodes c.args.number c.in-Some.node.now c.requires.loaded c.in-Some.ensures.some) in
     o.children ∙ ap (λ v. row_of (node_views nodes) v) (sym (c.in_ok-links-in-Some.ensures ∙ c.as_slice.ensures.value))
 
 pub returns-in_ok-links-in-Some-clause-sound : goal.returns-in_ok-links-in-Some-clause-sound
@@ -22,4 +22,4 @@ returns-in_ok-links-in-Some-clause-sound c =
     let P : List Link → Type 0 = λ v. IsSoundView f (record { level = node.level; place = None; children = row_of (node_views nodes) v }) in
     let Q : KeyedRow → Type 0 = λ r. IsSoundView f (record { level = node.level; place = None; children = r }) in
     subst P (sym (c.in_ok-links-in-Some.ensures ∙ c.as_slice.ensures.value))
-    (subst Q (table_row (node_views nodes) nodes c.args.number node c.args.self.now.loaded c.in-Some.ensures.some) (sound_at f (node_views nodes) c.args.number (node_view_of (node_views nodes) node) c.args.self.now.sound there))
+    (subst Q (table_row (node_views nodes) nodes c.args.number node c.requires.loaded c.in-Some.ensures.some) (sound_at f (node_views nodes) c.args.number (node_view_of (node_views nodes) node) c.args.self.now.sound there))

@@ -12,7 +12,7 @@ add-requires c = record {
   sound = row_sound c.args.self.now.fanout c.insert_row.new.self.fanout c.in_ok-level.level c.args.leaf (tree_at c.args.self.now.nodes.items c.args.root)
       (row_of (node_views c.insert_row.new.self.nodes.items) c.in_ok-links.links.items) c.args.self.now.least c.in_ok-links.ensures.fanout c.requires.key c.in_ok-level.ensures c.in_ok-links.ensures.made;
   clean = refl;
-  loaded = refl;
+  dirty = refl;
 }
 
 pub returns-in-Some-clause-made : goal.returns-in-Some-clause-made

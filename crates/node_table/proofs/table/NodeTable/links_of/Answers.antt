@@ -12,12 +12,12 @@ returns-in-None-clause-none c = none_opened c.args.self.now.nodes.items c.args.n
 pub returns-in-Some-clause-some : goal.returns-in-Some-clause-some
 returns-in-Some-clause-some c =
     let nodes = c.args.self.now.nodes.items in
-    let o = opened_node c.args.self.now.fanout nodes c.args.number c.in-Some.node.now c.args.self.now.sound c.in-Some.ensures.some (loaded_at nodes c.args.number c.in-Some.node.now c.args.self.now.loaded c.in-Some.ensures.some) in
+    let o = opened_node c.args.self.now.fanout nodes c.args.number c.in-Some.node.now c.args.self.now.sound c.in-Some.ensures.some (loaded_at nodes c.args.number c.in-Some.node.now c.requires.loaded c.in-Some.ensures.some) in
     o.children ∙ ap (λ v. row_of (node_views nodes) v) (sym c.as_slice.ensures.value)
 
 pub returns-in-Some-clause-bounded : goal.returns-in-Some-clause-bounded
 returns-in-Some-clause-bounded c =
     let nodes = c.args.self.now.nodes.items in
-    let o = opened_node c.args.self.now.fanout nodes c.args.number c.in-Some.node.now c.args.self.now.sound c.in-Some.ensures.some (loaded_at nodes c.args.number c.in-Some.node.now c.args.self.now.loaded c.in-Some.ensures.some) in
+    let o = opened_node c.args.self.now.fanout nodes c.args.number c.in-Some.node.now c.args.self.now.sound c.in-Some.ensures.some (loaded_at nodes c.args.number c.in-Some.node.now c.requires.loaded c.in-Some.ensures.some) in
     let P : List Link → Type 0 = λ v. AreKeysBounded 0 None (row_of (node_views nodes) v) in
     subst P (sym c.as_slice.ensures.value) o.bounded

@@ -1,7 +1,7 @@
 use Rattle.std.proofs.Common.{ap, ◌∙◌}
-use Rattle.table_nodes.specs.BeyondLaws.{table_row}
 use Rattle.table_nodes.specs.NodeView.{node_views, node_view_of, children_in}
 use Rattle.table_nodes.specs.NodeViewLaws.{opened, sound_at, not_there}
+use Rattle.table_nodes.specs.StubLaws.{linked_row}
 use Rattle.node_table.proofs.table.NodeTable.node_at.Goals as goal
 
 pub returns-in-Some-clause-seen : goal.returns-in-Some-clause-seen
@@ -19,7 +19,7 @@ pub returns-in-None-clause-unseen : goal.returns-in-None-clause-unseen
 returns-in-None-clause-unseen c = not_there c.args.self.now.nodes.items c.args.number c.in-None.ensures.none
 
 pub returns-in-Some-clause-linked : goal.returns-in-Some-clause-linked
-returns-in-Some-clause-linked c =
+returns-in-Some-clause-linked c = λ loaded.
     let s = c.args.self.now in
     let n = c.in-Some.node.now in
-    ap children_in (opened s.fanout s.nodes.items c.args.number n s.sound c.in-Some.ensures.some) ∙ table_row (node_views s.nodes.items) s.nodes.items c.args.number n s.loaded c.in-Some.ensures.some
+    ap children_in (opened s.fanout s.nodes.items c.args.number n s.sound c.in-Some.ensures.some) ∙ linked_row (node_views s.nodes.items) n loaded

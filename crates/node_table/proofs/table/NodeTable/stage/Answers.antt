@@ -1,5 +1,5 @@
 use Rattle.std.proofs.Common.{arith, ◌≡◌, ◌∙◌, length, ap}
-use Rattle.table_nodes.specs.Beyond.{are_loaded}
+use Rattle.node_table.specs.Unloaded.{are_loaded_if_dirty}
 use Rattle.table_nodes.specs.Clean.{are_clean_below}
 use Rattle.table_nodes.specs.NodeView.{node_views}
 use Rattle.node_table.proofs.Bounded.{few_taken}
@@ -24,9 +24,9 @@ invariant_of-self-clause-clean c =
     ap (λ v. are_clean_below (node_views v)) (c.truncate_both.ensures.nodes ∙ taken_back old c.stage_all.new.self.nodes.items c.len-number.result c.stage_all.ensures.added number)
     ∙ c.args.self.now.clean
 
-pub invariant_of-self-clause-loaded : goal.invariant_of-self-clause-loaded
-invariant_of-self-clause-loaded c =
+pub invariant_of-self-clause-dirty : goal.invariant_of-self-clause-dirty
+invariant_of-self-clause-dirty c =
     let old = c.args.self.now.nodes.items in
     let same = c.len-number.ensures in
     let number : c.len-number.result ≡ length old = omega (arith, same) in
-    ap are_loaded (c.truncate_both.ensures.nodes ∙ taken_back old c.stage_all.new.self.nodes.items c.len-number.result c.stage_all.ensures.added number) ∙ c.args.self.now.loaded
+    ap are_loaded_if_dirty (c.truncate_both.ensures.nodes ∙ taken_back old c.stage_all.new.self.nodes.items c.len-number.result c.stage_all.ensures.added number) ∙ c.args.self.now.dirty

@@ -30,5 +30,6 @@ loop-change-preserved c =
       leaves = c.in_ok-made.ensures.leaves ∙ ap (leaves_after_change change) c.loop-change.invariant.leaves ∙ leaves_more changes i none (leaves_at old c.args.root) c.loop-change-test.true;
       root = c.in_ok-made.ensures.root;
       added = added_both old before c.stage_one.new.self.nodes.items c.loop-change.invariant.added c.in_ok-made.ensures.added;
+      loaded = c.in_ok-made.ensures.loaded;
       fanout = c.in_ok-made.ensures.fanout ∙ c.loop-change.invariant.fanout;
     }
