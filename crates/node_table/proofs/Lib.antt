@@ -23,3 +23,4 @@ pub mod DirtyLists
 pub mod Cleaning
 pub mod PlacedTable
 pub mod KeptPlaces
+pub mod StubAdded

@@ -1,6 +1,7 @@
 pub mod Walk
 pub mod Unloaded
 pub mod UnloadedLaws
+pub mod UnloadedRoots
 pub mod Staging
 pub mod Exchange
 pub mod Changing

@@ -9,6 +9,7 @@
 mod after;
 mod bounds;
 mod change;
+pub mod client;
 mod counting;
 mod counts;
 mod dirty;
