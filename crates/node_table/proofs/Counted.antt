@@ -29,26 +29,26 @@ none_sized f children three none =
 same_counts : (own : TreeCounts) (n w : ℕ) → own.nodes ≡ n → own.weight ≡ w → own ≡ record { nodes = n; weight = w }
 same_counts own n w a b = ap (λ (k : ℕ). record { nodes = k; weight = own.weight }) a ∙ ap (λ (k : ℕ). record { nodes = n; weight = k }) b
 
-full_alone : (f : ℕ) (seen : List NodeView) (links : List Link) → (if nat_le f (length links) then 2 else 1) ≡ 1 + full f (bare (row_of seen links))
+full_alone : (f : ℕ) (seen : List NodeView) (links : List Link) → 1 + (if nat_le f (length links) then 1 else 0) ≡ 1 + full f (bare (row_of seen links))
 full_alone f seen links =
-    let P : ℕ → Type 0 = λ n. (if nat_le f n then 2 else 1) ≡ 1 + full f (bare (row_of seen links)) in
+    let P : ℕ → Type 0 = λ n. 1 + (if nat_le f n then 1 else 0) ≡ 1 + full f (bare (row_of seen links)) in
     subst P (sym (links_counted seen links)) (elim (cases_Bool (nat_le f (count (bare (row_of seen links))))) [
       | inl e ↦ rw e refl
       | inr e ↦ rw e refl
     ])
 
-sized_over : (f : ℕ) (seen : List NodeView) (links : List Link) (own below : TreeCounts) (weight : ℕ) → own.nodes ≡ 1 + below.nodes → own.weight ≡ weight + below.weight
-    → weight ≡ (if nat_le f (length links) then 2 else 1) → below.nodes ≡ node_count (bare (row_of seen links)) → below.weight ≡ shape_weight f (bare (row_of seen links))
+sized_over : (f : ℕ) (seen : List NodeView) (links : List Link) (alone own below : TreeCounts) → own.nodes ≡ alone.nodes + below.nodes → own.weight ≡ alone.weight + below.weight
+    → alone.nodes ≡ 1 → alone.weight ≡ 1 + (if nat_le f (length links) then 1 else 0) → below.nodes ≡ node_count (bare (row_of seen links)) → below.weight ≡ shape_weight f (bare (row_of seen links))
     → own ≡ counts_of f (row_of seen links)
-sized_over f seen links own below weight n w b c d =
+sized_over f seen links alone own below n w a b c d =
     let whole = b ∙ full_alone f seen links in
     same_counts own (node_count (bare (row_of seen links)) + 0 + 1) (shape_weight f (bare (row_of seen links)) + 0 + 1 + full f (bare (row_of seen links)))
-    (omega (arith, n, c)) (omega (arith, w, whole, d))
+    (omega (arith, n, a, c)) (omega (arith, w, whole, d))
 
-pub sized : (f : ℕ) (seen : List NodeView) (links : List Link) (children : KeyedRow) (weight : ℕ) (own below : TreeCounts) → children ≡ row_of seen links
-    → own.nodes ≡ 1 + below.nodes → own.weight ≡ weight + below.weight → weight ≡ (if nat_le f (length links) then 2 else 1)
+pub sized : (f : ℕ) (seen : List NodeView) (links : List Link) (children : KeyedRow) (alone own below : TreeCounts) → children ≡ row_of seen links
+    → own.nodes ≡ alone.nodes + below.nodes → own.weight ≡ alone.weight + below.weight → alone.nodes ≡ 1 → alone.weight ≡ 1 + (if nat_le f (length links) then 1 else 0)
     → below.nodes ≡ node_count (bare (row_of seen links)) → below.weight ≡ shape_weight f (bare (row_of seen links)) → own ≡ counts_of f children
-sized f seen links children weight own below e n w b c d = sized_over f seen links own below weight n w b c d ∙ ap (counts_of f) (sym e)
+sized f seen links children alone own below e n w a b c d = sized_over f seen links alone own below n w a b c d ∙ ap (counts_of f) (sym e)
 
 -- those of a tree that stands on a volume
 pub sized_there : (f : ℕ) (branch : Branch) (row : PlacedRow) (children : KeyedRow) (r : Result TreeCounts AreaFault) → plain row ≡ bare children → IfOk r (λ counts. AreCountsOf f (plain (node_at branch row ended)) counts)

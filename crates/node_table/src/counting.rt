@@ -1,6 +1,6 @@
 // The nodes below a root, and their weight.
 
-ghost use Rattle.std.specs.Prelude.{◌≡◌, ◌∷◌, [], IfOk, if◌then◌else◌, length, nat_le, slice_get};
+ghost use Rattle.std.specs.Prelude.{◌≡◌, ◌∷◌, [], IfOk, slice_get};
 ghost use Rattle.index_tree.specs.Shape.{node_count, shape_weight};
 ghost use Rattle.index_media.specs.KeyedRow.{bare};
 ghost use Rattle.node_cache.specs.Loaded.{IsReadOnlyCall};
@@ -10,20 +10,10 @@ ghost use Rattle.table_nodes.specs.NodeView.{node_views, row_of, children_in, tr
 
 use crate::counts::TreeCounts;
 use crate::table::NodeTable;
-use crate::volume_counting::{both, count_below};
+use crate::volume_counting::{both, count_below, counts_alone};
 use std::alloc::Global;
 use table_nodes::{Link, Root};
 use ubi_volume::{AreaFault, Volume};
-
-/// The weight of a node alone: 2 for a full one, and else 1.
-fn weight_alone(links: &[Link], fanout: u32) -> u64
-    ensures { result ≡ (if nat_le fanout (length links.now) then 2 else 1) }
-{
-    if fanout as usize <= links.len() {
-        return 2;
-    }
-    1
-}
 
 impl NodeTable {
     /// The numbers of the tree of a node; a node that isn't there has no children.
@@ -48,11 +38,7 @@ impl NodeTable {
             }),
             Some(links) => {
                 let below = self.size_among(alloc, volume, links)?;
-                let alone = TreeCounts {
-                    nodes: 1,
-                    weight: weight_alone(links, self.fanout),
-                };
-                let own = both(alone, below)?;
+                let own = both(counts_alone(links.len(), self.fanout), below)?;
                 Ok(own)
             }
         }

@@ -12,7 +12,7 @@ use std::alloc::Global;
 use ubi_volume::{AreaFault, Volume};
 use ubifs_base::Memory;
 
-/// The numbers of two trees together; none where they pass 64 bits.
+/// The numbers of two trees together. Where they pass 64 bits, it answers `Memory`.
 pub(crate) fn both(x: TreeCounts, y: TreeCounts) -> Result<TreeCounts, Memory>
     ensures nodes { IfOk result (λ sum. sum.nodes ≡ x.nodes + y.nodes) }
     ensures weight { IfOk result (λ sum. sum.weight ≡ x.weight + y.weight) }
@@ -26,8 +26,8 @@ pub(crate) fn both(x: TreeCounts, y: TreeCounts) -> Result<TreeCounts, Memory>
     }
 }
 
-/// Those of a node with so many children alone: a full one weighs 2, and else 1.
-fn counts_alone(children: usize, fanout: u32) -> TreeCounts
+/// Those of a node with so many children alone: a full one weighs 2, any other 1.
+pub(crate) fn counts_alone(children: usize, fanout: u32) -> TreeCounts
     ensures nodes { result.nodes ≡ 1 }
     ensures weight { result.weight ≡ 1 + (if nat_le fanout children then 1 else 0) }
 {
@@ -43,8 +43,8 @@ fn counts_alone(children: usize, fanout: u32) -> TreeCounts
     }
 }
 
-/// The numbers of the tree of the node to which a branch leads, on a volume. It keeps the nodes of one path in memory. The volume is as it
-/// was.
+/// The numbers of the tree of the node to which a branch leads, on a volume. The node stands `level` levels above the lowest one, and a
+/// full node has `fanout` children. It keeps the nodes of one path in memory. The volume is as it was.
 ///
 /// `Memory` and `Volume` are the faults. Numbers past 64 bits are answered as want of memory.
 #[cycle(walking)]

@@ -36,5 +36,5 @@ pub size_at-returns-in_ok-own-in-Some-loaded_links-clause-counted : goal.size_at
 size_at-returns-in_ok-own-in-Some-loaded_links-clause-counted g t c =
     let below = c.in_ok-below-in-Some-loaded_links in
     let own = c.in_ok-own-in-Some-loaded_links in
-    sized c.args.self.now.fanout (node_views c.args.self.now.nodes.items) c.in-Some-loaded_links.links.now _ c.weight_alone.result own.own below.below c.in-Some-loaded_links.ensures.some
-    own.ensures.nodes own.ensures.weight c.weight_alone.ensures below.ensures.nodes below.ensures.weight
+    sized c.args.self.now.fanout (node_views c.args.self.now.nodes.items) c.in-Some-loaded_links.links.now _ c.counts_alone.result own.own below.below c.in-Some-loaded_links.ensures.some
+    own.ensures.nodes own.ensures.weight c.counts_alone.ensures.nodes c.counts_alone.ensures.weight below.ensures.nodes below.ensures.weight
