@@ -93,6 +93,7 @@ stub_added lebs levels nodes new branch n told some one stands tells same added 
       views = node_view_of seen n ∷ [];
       seen = ap node_views added ∙ views_push nodes n;
       children = All-cons (IsChildView lebs levels (branch ∷ [])) (node_view_of seen n) [] own (All-nil (IsChildView lebs levels (branch ∷ [])));
+      placed = rw stands refl;
     }
 
 -- no branch is left

@@ -1,19 +1,18 @@
 -- What is seen of a node that isn't loaded, and that nodes which are added where it is opened are sound and clean.
 use Rattle.std.proofs.Common.{◌≡◌, ℕ, zero, suc, ◌+◌, ◌-◌, ◌<◌, ◌≤◌, true, false, List, [], ◌∷◌, ◌++◌, length, refl, ap, sym, ◌∙◌, subst, arith, append-nil, append_assoc, length-append}
-use Rattle.std.specs.Prelude.{◌&&◌, Bool, Option, None, Some, IfSome, All, Contains, is_some, map, slice_get, option_map}
+use Rattle.std.specs.Prelude.{◌&&◌, Option, None, Some, IfSome, All, Contains, is_some, slice_get, option_map}
 use Rattle.std.proofs.lemmas.List.{length-map, map-append}
 use Rattle.std.proofs.lemmas.List.Elements.{All-nil, All-cons, All-head, All-tail, All-append, All-weaker, All-contains, Contains-append_left, Contains-append_right}
 use Rattle.std.proofs.lemmas.List.Folds.{list_all-append}
 use Rattle.std.proofs.lemmas.Option.{slice_get-get_or, slice_get-map}
-use Rattle.std.specs.List.{list_all}
 use Rattle.index_tree.specs.Levels.{levelled}
 use Rattle.index_tree.specs.Order.{key_rank, leaf_rank}
-use Rattle.index_tree.specs.Shape.{Shape, done, node, fits}
-use Rattle.index_media.specs.Clean.{is_clean_row, placed_of, node_branch}
+use Rattle.index_tree.specs.Shape.{done, fits}
+use Rattle.index_media.specs.Clean.{node_branch}
 use Rattle.index_media.specs.InsertionSound.{AreKeys, fit_node, fits_node}
 use Rattle.index_media.specs.KeyedKeys.{key_before, AreKeysBounded}
 use Rattle.index_media.specs.KeyedRow.{KeyedRow, no_more, leaf_in, node_in, bare, all_clean}
-use Rattle.index_media.specs.PlacedRow.{branches_of, leaf_of, stretch_of}
+use Rattle.index_media.specs.PlacedRow.{stretch_of}
 use Rattle.media_sys.specs.declared.branch.Branch.{Branch}
 use Rattle.node_cache.specs.CleanRows.{all_is_clean, levels_node}
 use Rattle.node_cache.specs.OnVolume.{IsOnVolume}
@@ -22,15 +21,15 @@ use Rattle.rows_below.specs.RowBelow.{row_by}
 use Rattle.told_value.specs.declared.told.Told.{Told}
 use Rattle.ubi_volume.specs.Volume.{VolumeState}
 use Rattle.ubifs_base.specs.declared.key.Key.{Key}
-use Rattle.table_nodes.specs.Beyond.{branch_at_place, children_by, contents_told, is_loaded, row_at_place, row_told}
+use Rattle.table_nodes.specs.Beyond.{branch_at_place, children_by, contents_told, row_told}
 use Rattle.table_nodes.specs.Clean.{is_clean_below, are_clean_below}
-use Rattle.table_nodes.specs.LinkLaws.{added_both, added_none, before_append, before_none, links_in_append, links_there, views_added}
+use Rattle.table_nodes.specs.LinkLaws.{before_append, before_none, links_in_append, links_there, views_added}
 use Rattle.table_nodes.specs.Links.{row_before, AreLinksIn, AreNodesAdded}
 use Rattle.table_nodes.specs.NodeView.{NodeView, children_in, node_before, node_view_of, node_views, row_of, stretch_at, views_behind}
 use Rattle.table_nodes.specs.NodeViewLaws.{children_fit, get_left, get_seam, opened, sound_at, views_length, views_more}
 use Rattle.table_nodes.specs.Sound.{IsSoundView, AreSoundViews}
 use Rattle.table_nodes.specs.StubRows.{StandsAsTold, told_stands}
-use Rattle.table_nodes.specs.Stubs.{is_stub, unplaced_node, unplaced, AreOpened, AreStubs, IsChildView, IsStubOf}
+use Rattle.table_nodes.specs.Stubs.{are_placed, is_stub, unplaced_node, unplaced, AreOpened, AreStubs, IsChildView, IsStubOf}
 use Rattle.table_nodes.specs.declared.link.Link.{Link}
 use Rattle.table_nodes.specs.declared.node.NodePlace.{NodePlace}
 use Rattle.table_nodes.specs.declared.node.TableNode.{TableNode}
@@ -145,7 +144,11 @@ stubs_none lebs levels branches old new e = record {
   views = [];
   seen = ap node_views e ∙ sym (append-nil (node_views old));
   children = All-nil (IsChildView lebs levels branches);
+  placed = refl;
 }
+
+placed_both : (xs ys : List TableNode) → are_placed xs ≡ true → are_placed ys ≡ true → are_placed (xs ++ ys) ≡ true
+placed_both xs ys h k = list_all-append (λ (n : TableNode). is_some n.place) xs ys ∙ rw (h, k) refl
 
 child_more : (lebs : List (List ℕ)) (levels : ℕ) (few all : List Branch) → ((b : Branch) → Contains few b → Contains all b) → (v : NodeView) → IsChildView lebs levels few v → IsChildView lebs levels all v
 child_more lebs levels few all more v h = record { branch = h.branch; among = more h.branch h.among; level = h.level; above = h.above; is = h.is }
@@ -164,6 +167,7 @@ stubs_both lebs levels branch rest branches a b c e x y =
       views = x.views ++ y.views;
       seen = y.seen ∙ ap (λ (v : List NodeView). v ++ y.views) x.seen ∙ append_assoc (node_views a) x.views y.views;
       children = subst P (sym e) (All-append (IsChildView lebs levels all) x.views y.views first others);
+      placed = placed_both x.more y.more x.placed y.placed;
     }
 
 pub stubs_first : (lebs : List (List ℕ)) (levels : ℕ) (branch : Branch) (rest branches : List Branch) (a b : List TableNode) → branches ≡ branch ∷ rest
@@ -239,9 +243,10 @@ pub opened_none : (old new : List TableNode) → new ≡ old → AreOpened old n
 opened_none old new e =
     let same = ap node_views e in
     record {
-      added = added_none old new e;
+      added = record { more = []; is = e ∙ sym (append-nil old) };
       sound = λ fanout s. let P : List NodeView → Type 0 = λ v. AreSoundViews fanout v in subst P (sym same) s;
       clean = λ c. ap are_clean_below same ∙ c;
+      placed = refl;
     }
 
 -- where a node that isn't loaded was opened
@@ -262,11 +267,17 @@ opened_stub nodes new i n stub h is stubs =
       clean = λ c.
           ap are_clean_below stubs.seen
           ∙ both_clean (node_views nodes) stubs.views c (all_clean_below (IsChildView lebs stub.level branches) stubs.views (child_clean lebs stub.level branches) stubs.children);
+      placed = stubs.placed;
     }
 
 -- one behind another
 pub opened_both : (a b c : List TableNode) → AreOpened a b → AreOpened b c → AreOpened a c
-opened_both a b c x y = record { added = added_both a b c x.added y.added; sound = λ fanout s. y.sound fanout (x.sound fanout s); clean = λ h. y.clean (x.clean h) }
+opened_both a b c x y = record {
+  added = record { more = x.added.more ++ y.added.more; is = y.added.is ∙ ap (λ (v : List TableNode). v ++ y.added.more) x.added.is ∙ append_assoc a x.added.more y.added.more };
+  sound = λ fanout s. y.sound fanout (x.sound fanout s);
+  clean = λ h. y.clean (x.clean h);
+  placed = placed_both x.added.more y.added.more x.placed y.placed;
+}
 
 -- what was seen of a node is seen of it
 pub seen_kept : (old new : List TableNode) (i : ℕ) → AreNodesAdded old new → i < length old → slice_get (node_views new) i ≡ slice_get (node_views old) i

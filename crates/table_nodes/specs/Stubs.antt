@@ -1,5 +1,6 @@
 -- Nodes that aren't loaded: which they are, and those that are added where one is opened.
-use Rattle.std.specs.Prelude.{◌≡◌, ◌&&◌, ℕ, suc, Bool, true, List, ◌++◌, Option, None, Some, All, Contains, is_some, if◌then◌else◌, map}
+use Rattle.std.specs.Prelude.{◌≡◌, ◌&&◌, ℕ, suc, Bool, true, List, ◌++◌, None, Some, All, Contains, is_some, if◌then◌else◌, map}
+use Rattle.std.specs.List.{list_all}
 use Rattle.index_media.specs.PlacedRow.{stretch_of}
 use Rattle.media_sys.specs.declared.branch.Branch.{Branch}
 use Rattle.told_value.specs.declared.told.Told.{Told}
@@ -32,6 +33,10 @@ unplaced_node node = record { level = node.level; place = if is_loaded node then
 abbrev pub unplaced : List TableNode → List TableNode
 unplaced nodes = map unplaced_node nodes
 
+-- whether each of these nodes has a place
+abbrev pub are_placed : List TableNode → Bool
+are_placed nodes = list_all (λ node. is_some node.place) nodes
+
 -- what is seen of a node that isn't loaded, to which one of these branches leads: the row of its children is the one that is told
 pub record IsChildView (lebs : List (List ℕ)) (levels : ℕ) (branches : List Branch) (v : NodeView) : Type 0 where
   pub branch : Branch
@@ -40,16 +45,18 @@ pub record IsChildView (lebs : List (List ℕ)) (levels : ℕ) (branches : List 
   pub above : levels ≡ suc level
   pub is : v ≡ record { level = level; place = Some (stretch_of branch); children = row_told lebs level branch }
 
--- nodes were added that aren't loaded, and to each one of these branches leads
+-- nodes with places were added that aren't loaded, and to each one of these branches leads
 pub record AreStubs (lebs : List (List ℕ)) (levels : ℕ) (branches : List Branch) (old new : List TableNode) : Type 0 where
   pub more : List TableNode
   pub is : new ≡ old ++ more
   pub views : List NodeView
   pub seen : node_views new ≡ node_views old ++ views
   pub children : All (IsChildView lebs levels branches) views
+  pub placed : are_placed more ≡ true
 
--- nodes were added, and they are sound, and clean with all that is below them, if those that were there are
+-- nodes with places were added, and they are sound, and clean with all that is below them, if those that were there are
 pub record AreOpened (old new : List TableNode) : Type 0 where
   pub added : AreNodesAdded old new
   pub sound : (fanout : ℕ) → AreSoundViews fanout (node_views old) → AreSoundViews fanout (node_views new)
   pub clean : are_clean_below (node_views old) ≡ true → are_clean_below (node_views new) ≡ true
+  pub placed : are_placed added.more ≡ true

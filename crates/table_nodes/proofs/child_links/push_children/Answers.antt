@@ -1,12 +1,11 @@
-use Rattle.std.proofs.Common.{◌≡◌, ℕ, List, false, length, refl, ap, sym, ◌∙◌, subst}
-use Rattle.std.specs.Prelude.{Option, Some, OnOk, slice_get}
+use Rattle.std.proofs.Common.{◌≡◌, List, false, length, refl, ap, sym, ◌∙◌, subst}
+use Rattle.std.specs.Prelude.{Some, OnOk, slice_get}
 use Rattle.index_media.specs.KeyedRow.{KeyedRow, no_more}
-use Rattle.table_nodes.specs.Beyond.{branch_at_place, row_told}
 use Rattle.table_nodes.specs.Links.{row_before, AreLinksIn}
-use Rattle.table_nodes.specs.NodeView.{NodeView, children_in, node_views}
+use Rattle.table_nodes.specs.NodeView.{children_in, node_views}
 use Rattle.table_nodes.specs.Sound.{AreSoundViews}
 use Rattle.table_nodes.specs.StubLaws.{opened_none, opened_stub, stub_seen, stub_stands}
-use Rattle.table_nodes.specs.Stubs.{is_stub, IsStubOf}
+use Rattle.table_nodes.specs.Stubs.{is_stub}
 use Rattle.table_nodes.specs.declared.node.TableNode.{TableNode}
 use Rattle.table_nodes.proofs.child_links.push_children.Goals as goal
 

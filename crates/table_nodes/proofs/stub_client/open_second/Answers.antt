@@ -1,4 +1,4 @@
-use Rattle.std.proofs.Common.{◌≡◌, List, [], length, refl, ap, sym, ◌∙◌, subst}
+use Rattle.std.proofs.Common.{List, length, ap, sym, ◌∙◌, subst}
 use Rattle.std.specs.Prelude.{Option, slice_get}
 use Rattle.index_media.specs.KeyedRow.{no_more}
 use Rattle.node_cache.specs.OnVolume.{IsOnVolume}

@@ -4,7 +4,7 @@ use Rattle.index_media.specs.KeyedRow.{KeyedRow, no_more}
 use Rattle.table_nodes.specs.NodeView.{node_views}
 use Rattle.table_nodes.specs.Links.{row_before}
 use Rattle.table_nodes.proofs.Unloaded.{none_left, one_more}
-use Rattle.table_nodes.specs.StubLaws.{stubs_both, stubs_first, stubs_none}
+use Rattle.table_nodes.specs.StubLaws.{stubs_both, stubs_none}
 use Rattle.table_nodes.proofs.stubs.+open_branches.Goals as goal
 
 pub returns-in-None-clause-opened : goal.returns-in-None-clause-opened
