@@ -1,15 +1,16 @@
 -- What a node that is added leaves.
-use Rattle.std.proofs.Common.{◌≡◌, ℕ, List, [], ◌∷◌, ◌++◌, length, refl, ap, sym, ◌∙◌, subst, arith}
-use Rattle.std.specs.Prelude.{Option, None, Some, slice_get, Bool, true, false, if◌then◌else◌}
+use Rattle.std.proofs.Common.{◌≡◌, ℕ, List, [], ◌∷◌, ◌++◌, length, refl, ap, sym, ◌∙◌, subst, arith, inl, inr}
+use Rattle.std.specs.Prelude.{Option, None, Some, slice_get, Bool, true, false, is_some, if◌then◌else◌}
+use Rattle.std.proofs.lemmas.Bool.{cases_Bool}
 use Rattle.std.proofs.lemmas.List.Elements.{All-push}
 use Rattle.std.proofs.lemmas.List.Folds.{list_all-append}
 use Rattle.std.proofs.lemmas.Option.{slice_get-get_or}
 use Rattle.ubifs_base.specs.declared.key.Key.{Key}
 use Rattle.index_media.specs.KeyedRow.{no_more, node_in}
-use Rattle.table_nodes.specs.Beyond.{is_loaded, are_loaded}
 use Rattle.table_nodes.specs.Clean.{is_clean_below, are_clean_below}
 use Rattle.table_nodes.specs.NodeView.{node_before, node_view_of, stretch_at, node_views, tree_at, IsRootIn}
 use Rattle.table_nodes.specs.Sound.{IsSoundView, AreSoundViews}
+use Rattle.table_nodes.specs.Stubs.{are_placed, AreOpened}
 use Rattle.node_table.specs.Unloaded.{is_loaded_if_dirty, are_loaded_if_dirty}
 use Rattle.table_nodes.specs.declared.node.Root.{Root}
 use Rattle.table_nodes.specs.declared.node.TableNode.{TableNode}
@@ -52,17 +53,22 @@ after_push_settled nodes new n true e s h =
     ap (λ v. are_clean_below (node_views v)) e ∙ ap are_clean_below (views_push nodes n) ∙ list_all-append is_clean_below seen (v ∷ []) ∙ rw (s, one) refl
 after_push_settled nodes new n false e s h = ap (λ v. are_clean_below (node_views v)) e ∙ s
 
-pub after_push_loaded : (nodes new : List TableNode) (n : TableNode) (b : Bool) → new ≡ (if b then nodes ++ n ∷ [] else nodes) → are_loaded nodes ≡ true → is_loaded n ≡ true → are_loaded new ≡ true
-after_push_loaded nodes new n true e s h =
-    let one : are_loaded (n ∷ []) ≡ true = rw h refl in
-    ap are_loaded e ∙ list_all-append is_loaded nodes (n ∷ []) ∙ rw (s, one) refl
-after_push_loaded nodes new n false e s h = ap are_loaded e ∙ s
-
 pub after_push_dirty : (nodes new : List TableNode) (n : TableNode) (b : Bool) → new ≡ (if b then nodes ++ n ∷ [] else nodes) → are_loaded_if_dirty nodes ≡ true → is_loaded_if_dirty n ≡ true
     → are_loaded_if_dirty new ≡ true
 after_push_dirty nodes new n true e s h =
     let one : are_loaded_if_dirty (n ∷ []) ≡ true = rw h refl in
     ap are_loaded_if_dirty e ∙ list_all-append is_loaded_if_dirty nodes (n ∷ []) ∙ rw (s, one) refl
 after_push_dirty nodes new n false e s h = ap are_loaded_if_dirty e ∙ s
+
+-- nodes that are added where one is opened have places
+placed_loaded : (nodes : List TableNode) → are_placed nodes ≡ true → are_loaded_if_dirty nodes ≡ true
+placed_loaded [] h = refl
+placed_loaded (n ∷ ns) h = elim (cases_Bool (is_some n.place)) [
+  | inl e ↦ let more = placed_loaded ns (rw e at h) in rw (e, more) refl
+  | inr e ↦ let none = rw e at h in absurd cc
+]
+
+pub opened_dirty : (old new : List TableNode) → AreOpened old new → are_loaded_if_dirty old ≡ true → are_loaded_if_dirty new ≡ true
+opened_dirty old new o h = let more = placed_loaded o.added.more o.placed in ap are_loaded_if_dirty o.added.is ∙ list_all-append is_loaded_if_dirty old o.added.more ∙ rw (h, more) refl
 
 pub ruleset adding = (pushed_sound, pushed_kept, pushed_made, views_push)

@@ -1,12 +1,13 @@
 -- The bounds of dirty nodes, as nodes are added, taken back and given places.
-use Rattle.std.proofs.Common.{◌≡◌, ℕ, zero, suc, ◌+◌, ◌≤◌, true, false, List, [], ◌∷◌, ◌++◌, length, take, refl, ap, sym, ◌∙◌, subst, arith, inl, inr, length-append, append-nil}
-use Rattle.std.specs.Prelude.{◌==◌, Bool, Option, None, Some, Result, Ok, Err, IfOk, if◌then◌else◌, is_some, map, slice_get, unwrap_or}
+use Rattle.std.proofs.Common.{◌≡◌, ℕ, zero, suc, ◌+◌, ◌-◌, ◌≤◌, true, false, List, [], ◌∷◌, ◌++◌, length, take, refl, ap, sym, ◌∙◌, subst, arith, inl, inr, length-append, append-nil, append_assoc}
+use Rattle.std.specs.Prelude.{◌==◌, ◌&&◌, Bool, Option, None, Some, Result, Ok, Err, IfOk, if◌then◌else◌, is_some, map, slice_get, unwrap_or}
 use Rattle.std.proofs.lemmas.Bool.{cases_Bool}
 use Rattle.ubifs_base.specs.declared.memory.Memory.{Memory}
 use Rattle.node_table.specs.Bounds.{AreNoLonger}
-use Rattle.node_table.specs.Dirty.{dirty_node, dirty_among, dirty_lists}
+use Rattle.node_table.specs.Dirty.{dirty_node, dirty_among, dirty_behind, dirty_lists}
 use Rattle.node_table.specs.Placing.{without_number}
 use Rattle.table_nodes.specs.Links.{AreNodesAdded}
+use Rattle.table_nodes.specs.Stubs.{are_placed, AreOpened}
 use Rattle.table_nodes.specs.declared.link.Link.{Link}
 use Rattle.table_nodes.specs.declared.link.Link.TheVariants.{ToLeaf, ToNode}
 use Rattle.table_nodes.specs.declared.node.NodePlace.{NodePlace}
@@ -48,6 +49,36 @@ few_pushed old new bounds now n most false e k h own =
     let P : List TableNode → Type 0 = λ v. AreNoLonger (dirty_lists v) now in
     let Q : List ℕ → Type 0 = λ ms. AreNoLonger (dirty_lists old) ms in
     subst P (sym e) (subst Q (sym k) h)
+
+-- ---- clean nodes that are added, with any bounds
+clean_one : (place : Option NodePlace) (number : ℕ) (below : List ℕ) → is_some place ≡ true → length (dirty_node place number below) ≤ 0
+clean_one None number below h = absurd cc
+clean_one (Some p) number below h = omega arith
+
+both_true : (a b : Bool) → (a && b) ≡ true → (a ≡ true) × (b ≡ true)
+both_true true b h = (refl, h)
+both_true false b h = absurd cc
+
+few_clean : (known : List (List ℕ)) (nodes : List TableNode) (bounds zeros : List ℕ) → AreNoLonger known bounds → are_placed nodes ≡ true → length zeros ≡ length nodes → AreNoLonger (dirty_behind known nodes) (bounds ++ zeros)
+few_clean known [] bounds [] h placed long = let P : List ℕ → Type 0 = λ ms. AreNoLonger known ms in subst P (sym (append-nil bounds)) h
+few_clean known [] bounds (z ∷ zs) h placed long = absurd (omega (arith, long))
+few_clean known (n ∷ ns) bounds [] h placed long = absurd (omega (arith, long))
+few_clean known (n ∷ ns) bounds (z ∷ zs) h placed long =
+    let both = both_true (is_some n.place) (are_placed ns) placed in
+    let own = dirty_node n.place (length known) (dirty_among known n.links.items) in
+    let none = clean_one n.place (length known) (dirty_among known n.links.items) both.0 in
+    let P : List ℕ → Type 0 = λ ms. AreNoLonger (dirty_behind (known ++ own ∷ []) ns) ms in
+    subst P (append_assoc bounds (z ∷ []) zs) (few_clean (known ++ own ∷ []) ns (bounds ++ z ∷ []) zs (bound_behind known bounds own z h (omega (arith, none))) both.1 (omega (arith, long)))
+
+pub few_opened : (old new : List TableNode) (bounds now zeros : List ℕ) → AreOpened old new → now ≡ bounds ++ zeros → length zeros ≡ length new - length old → AreNoLonger (dirty_lists old) bounds → AreNoLonger (dirty_lists new) now
+few_opened old new bounds now zeros o is long h =
+    let a = o.added in
+    let all : dirty_lists new ≡ dirty_behind (dirty_lists old) a.more = ap dirty_lists a.is ∙ dirty_append [] old a.more in
+    let sum = ap length a.is in
+    let parts = length-append old a.more in
+    let P : List (List ℕ) → Type 0 = λ ds. AreNoLonger ds now in
+    let Q : List ℕ → Type 0 = λ ms. AreNoLonger (dirty_behind (dirty_lists old) a.more) ms in
+    subst P (sym all) (subst Q (sym is) (few_clean (dirty_lists old) a.more bounds zeros h o.placed (omega (arith, long, sum, parts))))
 
 -- ---- nodes that are taken back
 bound_first : (lists more : List (List ℕ)) (bounds : List ℕ) → AreNoLonger (lists ++ more) bounds → AreNoLonger lists (take (length lists) bounds)
@@ -109,10 +140,6 @@ among_node known number most h =
     omega (arith, same, h)
 
 -- ---- those of a node
-clean_one : (place : Option NodePlace) (number : ℕ) (below : List ℕ) → is_some place ≡ true → length (dirty_node place number below) ≤ 0
-clean_one None number below h = absurd cc
-clean_one (Some p) number below h = omega arith
-
 pub clean_most : (place : Option NodePlace) (below : List ℕ) → is_some place ≡ true → (number : ℕ) → length (dirty_node place number below) ≤ 0
 clean_most place below h number = clean_one place number below h
 

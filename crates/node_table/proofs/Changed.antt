@@ -1,8 +1,14 @@
 -- Changes are made one after another.
 use Rattle.std.proofs.Common.{◌≡◌, ℕ, zero, suc, ◌+◌, ◌<◌, ◌≤◌, false, List, [], ◌∷◌, ◌++◌, length, take, refl, ap, sym, ◌∙◌, arith, inl, inr}
-use Rattle.std.specs.Prelude.{get_or, slice_get, Option, None, Some}
+use Rattle.std.specs.Prelude.{get_or, slice_get, Option, None, Some, Result, Ok}
 use Rattle.std.proofs.lemmas.Bool.{cases_Bool}
 use Rattle.std.proofs.lemmas.List.{take_more}
+use Rattle.node_cache.specs.Loaded.{IsReadOnlyCall}
+use Rattle.ubi_volume.specs.FaultLaws.{HasAreaCause-before}
+use Rattle.ubi_volume.specs.Faults.{StaysSureArea}
+use Rattle.ubi_volume.specs.Volume.{VolumeState, Keeps}
+use Rattle.ubi_volume.specs.VolumeLaws.{Keeps-then, SameShape-then}
+use Rattle.ubi_volume.specs.declared.fault.AreaFault.{AreaFault}
 use Rattle.index_tree.specs.Removal.{same_leaf, holds, without}
 use Rattle.index_tree.specs.Shape.{contents, count}
 use Rattle.index_tree.specs.declared.leaf.Leaf.{Leaf}
@@ -36,6 +42,21 @@ pub change_at : (changes : List Change) (i : ℕ) (d : Change) → AreChanges ch
 change_at [] i d a h = absurd (omega (arith, h))
 change_at (first ∷ rest) zero d a h = a.0
 change_at (first ∷ rest) (suc i) d a h = change_at rest i d a.1 (omega (arith, h))
+
+-- two calls that only read the volume, of which the first one succeeded
+sure_then : {S T : Type 0} (a b d : VolumeState) (x : S) (r : Result T AreaFault) → Keeps b d → StaysSureArea {T = S} a b (Ok x) → StaysSureArea {T = T} b d r → StaysSureArea {T = T} a d r
+sure_then a b d x r keeps one two = λ sure. elim (one sure) [
+  | inl spent ↦ inl (keeps.spent spent)
+  | inr p ↦ elim (two p.0) [ inl spent ↦ inl spent | inr q ↦ inr (q.0, (q.1.0 ∙ p.1.0, q.1.1)) ]
+]
+
+pub reads_then : {S T : Type 0} (a b d : VolumeState) (x : S) (r : Result T AreaFault) → IsReadOnlyCall {T = S} a b (Ok x) → IsReadOnlyCall {T = T} b d r → IsReadOnlyCall {T = T} a d r
+reads_then a b d x r one two = record {
+  keeps = Keeps-then a b d one.keeps two.keeps;
+  shape = SameShape-then a b d one.shape two.shape;
+  cause = HasAreaCause-before a.faults b.faults d.faults r one.cause two.cause;
+  sure = sure_then a b d x r two.keeps one.sure two.sure;
+}
 
 -- an index is a row of one node at most
 node_short : (o : Option NodeView) (root : Root) → count (bare (node_before root.key o no_more)) ≡ 1

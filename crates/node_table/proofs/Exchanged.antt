@@ -17,6 +17,10 @@ use Rattle.table_nodes.specs.NodeView.{NodeView, link_key, links_begin, node_bef
 use Rattle.table_nodes.specs.Sound.{IsSoundView}
 use Rattle.table_nodes.specs.Links.{row_before, AreLinksIn, AreNodesAdded}
 use Rattle.node_table.specs.Walk.{inside}
+use Rattle.node_table.specs.Unloaded.{AreStandingLinks, DoesRootStand}
+use Rattle.node_table.specs.StandingLinks.{standing_leaf, standing_none, standing_on}
+use Rattle.ubi_volume.specs.Volume.{VolumeState, Keeps, SameShape}
+use Rattle.table_nodes.specs.declared.node.Root.{Root}
 use Rattle.table_nodes.specs.declared.link.Link.{Link}
 use Rattle.table_nodes.specs.declared.link.Link.TheVariants.{ToLeaf, ToNode}
 use Rattle.table_nodes.specs.declared.node.TableNode.{TableNode}
@@ -197,9 +201,18 @@ among_on f old now gone come key number rest links made more is a h g s m =
     ∙ ap (λ v. row_before (node_views old) made (exchanged_row gone come (row_of (node_views old) v))) (sym is)
 
 -- the links to the leaf that comes lead to no node
-pub links_to_in : (n : ℕ) (come : Option Leaf) → AreLinksIn n (links_to come)
-links_to_in n None = tt
-links_to_in n (Some come) = (tt, tt)
+pub links_to_standing : (s : VolumeState) (nodes : List TableNode) (come : Option Leaf) → AreStandingLinks s nodes (links_to come)
+links_to_standing s nodes None = standing_none s nodes
+links_to_standing s nodes (Some come) = standing_leaf s nodes (ToLeaf come) tt
+
+-- a link to a root stands if all below it does
+pub root_link : (s : VolumeState) (nodes : List TableNode) (root : Root) → root.number < length nodes → DoesRootStand s nodes (Some root) → AreStandingLinks s nodes (ToNode root.key root.number ∷ [])
+root_link s nodes root there stand = record { there = (there, tt); stand = stand }
+
+-- links go on standing where nodes were added twice, and the volume was read twice
+pub standing_through : (a m b : VolumeState) (old mid now : List TableNode) (links : List Link) → Keeps a m → SameShape a m → Keeps m b → SameShape m b → AreNodesAdded old mid → AreNodesAdded mid now
+    → AreStandingLinks a old links → AreStandingLinks b now links
+standing_through a m b old mid now links keeps shape keeps' shape' x y h = standing_on m b mid now links keeps' shape' y (standing_on a m old mid links keeps shape x h)
 
 -- a row whose nodes have children is the same over more nodes, and so are its bounds and its size
 pub rest_kept : (f f' : ℕ) (old now : List TableNode) (rest : List Link) → f' ≡ f → AreNodesAdded old now → fits f (bare (row_of (node_views old) rest)) ≡ true → AreKeysBounded 0 None (row_of (node_views old) rest)

@@ -1,6 +1,6 @@
 -- What a place that is given to a node changes of what is seen.
 use Rattle.std.proofs.Common.{◌≡◌, ℕ, zero, suc, ◌+◌, true, List, [], ◌∷◌, ◌++◌, length, refl, ap, sym, ◌∙◌, subst, arith, inl, inr, length-append, append_assoc}
-use Rattle.std.specs.Prelude.{◌⊎◌, ◌&&◌, ◌||◌, Bool, Option, None, Some, is_some, is_none, slice_get}
+use Rattle.std.specs.Prelude.{◌⊎◌, ◌||◌, Option, None, Some, is_some, is_none, slice_get}
 use Rattle.std.proofs.lemmas.List.Elements.{All-cons, All-head, All-tail}
 use Rattle.ubifs_base.specs.declared.key.Key.{Key}
 use Rattle.index_tree.specs.Levels.{levelled}
@@ -12,7 +12,7 @@ use Rattle.index_media.specs.KeyedKeys.{key_before, AreKeysBounded}
 use Rattle.index_media.specs.KeyedRow.{KeyedRow, no_more, leaf_in, node_in, bare}
 use Rattle.index_media.specs.PlacedRow.{Stretch}
 use Rattle.told_value.specs.declared.told.Told.{Told}
-use Rattle.table_nodes.specs.Beyond.{children_by, is_loaded, are_loaded, row_told, branch_at_place}
+use Rattle.table_nodes.specs.Beyond.{children_by, is_loaded, row_told, branch_at_place}
 use Rattle.table_nodes.specs.BeyondLaws.{loaded_row}
 use Rattle.table_nodes.specs.Clean.{is_clean_below, are_clean_below}
 use Rattle.table_nodes.specs.NodeView.{NodeView, stretch_at, node_before, linked_before, row_of, node_view_of, views_behind, node_views, children_in, tree_at, IsRootIn}
@@ -234,11 +234,6 @@ views_settled p b (v ∷ vs) ws c h s =
     let own = settled_view p b v h.0.place h.0.children c h.3.place h.3.children (and_left (is_clean_below v) (are_clean_below vs) s) in
     let more = views_settled p b vs h.1 c h.4 (and_right (is_clean_below v) (are_clean_below vs) s) in
     ap are_clean_below h.2 ∙ rw (own, more) refl
-
-pub with_loaded : (number : ℕ) (p : NodePlace) (nodes : List TableNode) → are_loaded (with_place number p nodes) ≡ are_loaded nodes
-with_loaded number p [] = refl
-with_loaded zero p (n ∷ ns) = refl
-with_loaded (suc k) p (n ∷ ns) = ap (λ (b : Bool). is_loaded n && b) (with_loaded k p ns)
 
 -- a node that is dirty is loaded, and so it is where others get places
 pub with_loaded_if_dirty : (number : ℕ) (p : NodePlace) (nodes : List TableNode) → are_loaded_if_dirty nodes ≡ true → are_loaded_if_dirty (with_place number p nodes) ≡ true

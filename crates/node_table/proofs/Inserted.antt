@@ -19,6 +19,9 @@ use Rattle.table_nodes.specs.declared.link.Link.TheVariants.{ToLeaf, ToNode}
 use Rattle.table_nodes.specs.declared.node.Root.{Root}
 use Rattle.table_nodes.specs.declared.node.TableNode.{TableNode}
 use Rattle.table_nodes.specs.LinkLaws.{link_there, views_added, added_longer, links_kept, links_there, before_none, before_append}
+use Rattle.ubi_volume.specs.Volume.{VolumeState, Keeps, SameShape}
+use Rattle.node_table.specs.StandingLinks.{standing_both, standing_first, standing_leaf, standing_on, standing_rest}
+use Rattle.node_table.specs.Unloaded.{AreStandingLinks, DoLinksStand}
 use Rattle.node_table.proofs.Staged.{Halved, link_passed, leaf_before, node_inside, grown_row}
 use Rattle.table_nodes.specs.NodeViewLaws.{views_length, get_left, children_fit}
 
@@ -70,6 +73,13 @@ among_node f old now new key number rest links made more e a h s m =
 -- the row that was made among the links of a node
 pub made_row : (old now : List TableNode) (made links : List Link) (row : KeyedRow) → made ≡ [] → row_before (node_views now) links no_more ≡ row_before (node_views old) made row → row_of (node_views now) links ≡ row
 made_row old now made links row e h = sym (before_none (node_views now) links) ∙ h ∙ ap (λ v. row_before (node_views old) v row) e
+
+-- the same where the node was opened, among a copy of its links
+pub among_made : (f f' : ℕ) (mid now : List TableNode) (new : Leaf) (none made all links own : List Link) → none ≡ [] → all ≡ made → links ≡ own → f ≡ f'
+    → row_before (node_views now) made no_more ≡ row_before (node_views mid) none (inserted_by_keys f new (row_of (node_views mid) links)) → row_of (node_views now) all ≡ inserted_by_keys f' new (row_of (node_views mid) own)
+among_made f f' mid now new none made all links own e a l k h =
+    ap (row_of (node_views now)) a ∙ made_row mid now none made (inserted_by_keys f new (row_of (node_views mid) links)) e h
+    ∙ ap (λ n. inserted_by_keys n new (row_of (node_views mid) links)) k ∙ ap (λ v. inserted_by_keys f' new (row_of (node_views mid) v)) l
 
 pub below_made : (f f' : ℕ) (old now : List TableNode) (new : Leaf) (key low : Key) (made links : List Link) (row children rest : KeyedRow) → f' ≡ f → AreNodesAdded old now → AreLinksIn (length old) made
     → low ≡ lowered new key → row_of (node_views now) links ≡ inserted_by_keys f new row → children ≡ row
@@ -155,3 +165,33 @@ pub first_there : (f : ℕ) (old : List TableNode) (link : Link) (rest links : L
 first_there f old link rest links e h =
     let P : List Link → Type 0 = λ v. fits f (bare (row_of (node_views old) v)) ≡ true in
     (there_old f old (link ∷ rest) (subst P e h)).0
+
+-- the links of a row whose nodes have children are links in the table
+pub row_standing : (s : VolumeState) (f : ℕ) (nodes : List TableNode) (links : List Link) → fits f (bare (row_of (node_views nodes) links)) ≡ true → DoLinksStand s nodes links → AreStandingLinks s nodes links
+row_standing s f nodes links fit h = record { there = all_there f nodes links fit; stand = h }
+
+-- links still stand where a leaf is pushed, or the first link of such a row
+pub leaf_standing : (s : VolumeState) (nodes : List TableNode) (made all : List Link) (leaf : Leaf) → all ≡ made ++ ToLeaf leaf ∷ [] → AreStandingLinks s nodes made → AreStandingLinks s nodes all
+leaf_standing s nodes made all leaf e h =
+    let P : List Link → Type 0 = λ v. AreStandingLinks s nodes v in
+    subst P (sym e) (standing_both s nodes made (ToLeaf leaf ∷ []) h (standing_leaf s nodes (ToLeaf leaf) tt))
+
+pub passed_standing : (s : VolumeState) (f : ℕ) (nodes : List TableNode) (links rest made all : List Link) (link : Link) → links ≡ link ∷ rest → all ≡ made ++ link ∷ []
+    → fits f (bare (row_of (node_views nodes) links)) ≡ true → DoLinksStand s nodes links → AreStandingLinks s nodes made → AreStandingLinks s nodes all
+passed_standing s f nodes links rest made all link is e fit stand h =
+    let P : List Link → Type 0 = λ v. AreStandingLinks s nodes v in
+    subst P (sym e) (standing_both s nodes made (link ∷ []) h (standing_first s nodes links rest link is (row_standing s f nodes links fit stand)))
+
+-- where all links of such a row are pushed, or those behind the first one once nodes were added
+pub all_standing : (s : VolumeState) (f : ℕ) (nodes : List TableNode) (links made all : List Link) → all ≡ made ++ links → fits f (bare (row_of (node_views nodes) links)) ≡ true
+    → DoLinksStand s nodes links → AreStandingLinks s nodes made → AreStandingLinks s nodes all
+all_standing s f nodes links made all e fit stand h =
+    let P : List Link → Type 0 = λ v. AreStandingLinks s nodes v in
+    subst P (sym e) (standing_both s nodes made links h (row_standing s f nodes links fit stand))
+
+pub behind_standing : (a b : VolumeState) (f : ℕ) (old now : List TableNode) (links rest made all : List Link) (link : Link) → Keeps a b → SameShape a b → AreNodesAdded old now → links ≡ link ∷ rest
+    → all ≡ made ++ rest → fits f (bare (row_of (node_views old) links)) ≡ true → DoLinksStand a old links → AreStandingLinks b now made → AreStandingLinks b now all
+behind_standing a b f old now links rest made all link keeps shape added is e fit stand h =
+    let P : List Link → Type 0 = λ v. AreStandingLinks b now v in
+    let own = standing_rest a old links rest link is (row_standing a f old links fit stand) in
+    subst P (sym e) (standing_both b now made rest h (standing_on a b old now rest keeps shape added own))

@@ -24,3 +24,4 @@ pub mod Cleaning
 pub mod PlacedTable
 pub mod KeptPlaces
 pub mod StubAdded
+pub mod CopiedNodes

@@ -17,6 +17,10 @@ use Rattle.index_media.specs.KeyedRemoval.{keyed_tidied}
 use Rattle.index_media.specs.KeyedRow.{KeyedRow, no_more, node_in, bare}
 use Rattle.index_media.specs.PlacedRow.{Stretch}
 use Rattle.table_nodes.specs.NodeView.{NodeView, link_key, links_begin, node_before, linked_before, row_of, node_views, children_in}
+use Rattle.table_nodes.specs.Sound.{IsSoundView}
+use Rattle.ubi_volume.specs.Volume.{VolumeState, Keeps, SameShape}
+use Rattle.node_table.specs.StandingLinks.{standing_on}
+use Rattle.node_table.specs.Unloaded.{AreStandingLinks}
 use Rattle.node_table.specs.Pruning.{stretch_in, pruned_node, pruned_link}
 use Rattle.table_nodes.specs.Links.{row_before, AreLinksIn, AreNodesAdded}
 use Rattle.node_table.specs.Walk.{inside}
@@ -241,6 +245,16 @@ below_left from to old now key o row made links rest a h e r gone some =
     links_kept old now made (node_in key None (row_of (node_views now) links) rest) a h
     ∙ ap (λ v. row_before (node_views old) made (node_in key None v rest)) is
     ∙ ap (row_before (node_views old) made) (sym whole)
+
+-- the links of a copy of a node, seen as a slice
+pub copy_sound : (f level : ℕ) (nodes : List TableNode) (links slice : List Link) → slice ≡ links → IsSoundView f (record { level = level; place = None; children = row_of (node_views nodes) links })
+    → IsSoundView f (record { level = level; place = None; children = row_of (node_views nodes) slice })
+copy_sound f level nodes links slice is h = subst (λ (v : List Link). IsSoundView f (record { level = level; place = None; children = row_of (node_views nodes) v })) (sym is) h
+
+-- links that stand go on standing behind two calls that add nodes and only read the volume
+pub standing_twice : (a b d : VolumeState) (old mid now : List TableNode) (links : List Link) → Keeps a b → SameShape a b → Keeps b d → SameShape b d → AreNodesAdded old mid → AreNodesAdded mid now
+    → AreStandingLinks a old links → AreStandingLinks d now links
+standing_twice a b d old mid now links k s l t x y h = standing_on b d mid now links l t y (standing_on a b old mid links k s x h)
 
 -- behind the links of lower ranks that a walk passes over, if there are any
 pub range_lower : (seen : List NodeView) (from to : ℕ) (links : List Link) (n : ℕ) → (0 < n → 0 < from) → Passed seen (from - 1) links n

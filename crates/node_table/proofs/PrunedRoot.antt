@@ -42,10 +42,10 @@ all_pruned from to old now root made r o =
     let none = pruned_top from to root.key (slice_get (node_views old) root.number) (subst P (r ∙ is) (not_lone (node_views now) made o)) in
     sym (ap keyed_collapsed (is ∙ none))
 
-pub some_pruned : (from to : ℕ) (old now : List TableNode) (root left sunk : Root) (made : List Link) → row_of (node_views now) made ≡ pruned_by_keys from to (tree_at old (Some root))
-    → only_root made ≡ Some left → tree_at now (Some sunk) ≡ keyed_collapsed (tree_at now (Some left)) → tree_at now (Some sunk) ≡ without_range_by_keys from to (tree_at old (Some root))
+pub some_pruned : (from to : ℕ) (old now last : List TableNode) (root left sunk : Root) (made : List Link) → row_of (node_views now) made ≡ pruned_by_keys from to (tree_at old (Some root))
+    → only_root made ≡ Some left → tree_at last (Some sunk) ≡ keyed_collapsed (tree_at now (Some left)) → tree_at last (Some sunk) ≡ without_range_by_keys from to (tree_at old (Some root))
 unfolding without_range_by_keys
-some_pruned from to old now root left sunk made r o s = s ∙ ap keyed_collapsed (sym (only_row now made left o) ∙ r)
+some_pruned from to old now last root left sunk made r o s = s ∙ ap keyed_collapsed (sym (only_row now made left o) ∙ r)
 
 -- the leaves below a root are those below its node
 pub top_range : (from to : ℕ) (nodes : List TableNode) (root : Root)

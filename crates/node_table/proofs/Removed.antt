@@ -12,17 +12,20 @@ use Rattle.index_media.specs.KeyedRemoval.{removed_by_keys, keyed_collapsed, wit
 use Rattle.index_media.specs.KeyedRow.{KeyedRow, no_more, bare}
 use Rattle.node_table.specs.Exchange.{exchanged_row, exchanged_node, tree_without}
 use Rattle.table_nodes.specs.NodeView.{NodeView, node_before, row_of, node_views, children_in, tree_at, IsRootIn}
+use Rattle.table_nodes.specs.NodeViewLaws.{sound_at, children_fit}
 use Rattle.table_nodes.specs.Sound.{AreSoundViews}
-use Rattle.table_nodes.specs.Links.{row_before, AreLinksIn}
+use Rattle.table_nodes.specs.Links.{row_before, AreLinksIn, AreNodesAdded}
+use Rattle.ubi_volume.specs.Volume.{VolumeState, Keeps, SameShape}
+use Rattle.node_table.specs.UnloadedRoots.{root_moved, root_stays}
 use Rattle.node_table.specs.Staging.{only_root, IsSoundRoot}
+use Rattle.node_table.specs.Unloaded.{DoLinksStand, DoesRootStand}
 use Rattle.table_nodes.specs.declared.link.Link.{Link}
 use Rattle.table_nodes.specs.declared.node.Root.{Root}
 use Rattle.table_nodes.specs.declared.node.TableNode.{TableNode}
 use Rattle.node_table.proofs.Exchanged.{node_there, exchanged_same}
-use Rattle.node_table.proofs.Inserted.{made_row}
-use Rattle.node_table.proofs.Rooted.{only_row, not_lone, link_in}
+use Rattle.node_table.proofs.Inserted.{made_row, tree_kept}
+use Rattle.node_table.proofs.Rooted.{only_row, only_stands, not_lone, link_in}
 use Rattle.node_table.proofs.Rows.{row_size, node_size, node_apart}
-use Rattle.table_nodes.specs.NodeViewLaws.{sound_at, children_fit}
 
 -- a root with one link to a node gives way to it
 node_stays_up : (key : Key) (o : Option NodeView) → lone (bare (children_in o)) ≡ false → node_before key o no_more ≡ keyed_collapsed (node_before key o no_more)
@@ -33,11 +36,11 @@ node_sinks : (key : Key) (o : Option NodeView) → lone (bare (children_in o)) �
 node_sinks key None h = absurd cc
 node_sinks key (Some v) h = rw h refl
 
-pub root_stays_up : (nodes : List TableNode) (root : Root) (row : KeyedRow) → children_in (slice_get (node_views nodes) root.number) ≡ row → lone (bare row) ≡ false
-    → tree_at nodes (Some root) ≡ keyed_collapsed (tree_at nodes (Some root))
-root_stays_up nodes root row e h =
+pub root_stays_up : (old now : List TableNode) (root : Root) (links : List Link) → AreNodesAdded old now → root.number < length old
+    → children_in (slice_get (node_views old) root.number) ≡ row_of (node_views now) links → only_root links ≡ None → tree_at now (Some root) ≡ keyed_collapsed (tree_at old (Some root))
+root_stays_up old now root links a there e o =
     let P : KeyedRow → Type 0 = λ r. lone (bare r) ≡ false in
-    node_stays_up root.key (slice_get (node_views nodes) root.number) (subst P (sym e) h)
+    tree_kept old now (Some root) a there ∙ node_stays_up root.key (slice_get (node_views old) root.number) (subst P (sym e) (not_lone (node_views now) links o))
 
 -- the root to which links lead is a node of the table
 pub only_linked : (n : ℕ) (links : List Link) (root : Root) → AreLinksIn n links → only_root links ≡ Some root → root.number < n
@@ -49,20 +52,20 @@ node_alone : (key : Key) (o : Option NodeView) → lone (bare (node_before key o
 node_alone key None = refl
 node_alone key (Some v) = refl
 
-pub record SunkTo (nodes : List TableNode) (root child : Root) : Type 0 where
-  pub small : row_size (children_in (slice_get (node_views nodes) child.number)) < row_size (children_in (slice_get (node_views nodes) root.number))
-  pub same : keyed_collapsed (tree_at nodes (Some child)) ≡ keyed_collapsed (tree_at nodes (Some root))
+pub record SunkTo (old now : List TableNode) (root child : Root) : Type 0 where
+  pub small : row_size (children_in (slice_get (node_views now) child.number)) < row_size (children_in (slice_get (node_views old) root.number))
+  pub same : keyed_collapsed (tree_at now (Some child)) ≡ keyed_collapsed (tree_at old (Some root))
 
-pub sunk_to : (nodes : List TableNode) (root child : Root) (links : List Link) → children_in (slice_get (node_views nodes) root.number) ≡ row_of (node_views nodes) links → only_root links ≡ Some child
-    → SunkTo nodes root child
-sunk_to nodes root child links e o =
-    let seen = node_views nodes in
-    let row = only_row nodes links child o in
+pub sunk_to : (old now : List TableNode) (root child : Root) (links : List Link) → children_in (slice_get (node_views old) root.number) ≡ row_of (node_views now) links → only_root links ≡ Some child
+    → SunkTo old now root child
+sunk_to old now root child links e o =
+    let seen = node_views now in
+    let row = only_row now links child o in
     let is = e ∙ row in
     let size = ap row_size is ∙ node_size child.key (slice_get seen child.number) no_more in
     let P : KeyedRow → Type 0 = λ r. lone (bare r) ≡ true in
     let one = subst P (sym is) (node_alone child.key (slice_get seen child.number)) in
-    record { small = omega (arith, size); same = sym (node_sinks root.key (slice_get seen root.number) one ∙ ap keyed_collapsed is) }
+    record { small = omega (arith, size); same = sym (node_sinks root.key (slice_get (node_views old) root.number) one ∙ ap keyed_collapsed is) }
 
 option_fits : (f : ℕ) (seen : List NodeView) (i : ℕ) (o : Option NodeView) → AreSoundViews f seen → slice_get seen i ≡ o → fits f (bare (children_in o)) ≡ true
 option_fits f seen i None s e = refl
@@ -119,10 +122,10 @@ none_left old now root z made h r o =
     let none = removed_top z root.key (slice_get (node_views old) root.number) h (subst P r (not_lone (node_views now) made o)) in
     sym (without_some old root z h ∙ ap keyed_collapsed none)
 
-pub one_left : (old now : List TableNode) (root left sunk : Root) (z : Leaf) (made : List Link) → holds z (contents (bare (children_in (slice_get (node_views old) root.number)))) ≡ true
-    → row_of (node_views now) made ≡ removed_by_keys z (tree_at old (Some root)) → only_root made ≡ Some left → tree_at now (Some sunk) ≡ keyed_collapsed (tree_at now (Some left))
-    → tree_at now (Some sunk) ≡ tree_without z (tree_at old (Some root))
-one_left old now root left sunk z made h r o s =
+pub one_left : (old now last : List TableNode) (root left sunk : Root) (z : Leaf) (made : List Link) → holds z (contents (bare (children_in (slice_get (node_views old) root.number)))) ≡ true
+    → row_of (node_views now) made ≡ removed_by_keys z (tree_at old (Some root)) → only_root made ≡ Some left → tree_at last (Some sunk) ≡ keyed_collapsed (tree_at now (Some left))
+    → tree_at last (Some sunk) ≡ tree_without z (tree_at old (Some root))
+one_left old now last root left sunk z made h r o s =
     s ∙ ap keyed_collapsed (sym (only_row now made left o) ∙ r) ∙ sym (without_some old root z h)
 
 replaced_top : (z new : Leaf) (key : Key) (o : Option NodeView) → holds z (contents (bare (children_in o))) ≡ true → lone (bare (replaced_by_keys z new (node_before key o no_more))) ≡ true
@@ -142,6 +145,15 @@ replaced_left old now root o z new made h r e =
 pub option_linked : (nodes : List TableNode) (links : List Link) (o : Option Root) → AreLinksIn (length nodes) links → only_root links ≡ o → IsRootIn nodes o
 option_linked nodes links None h e = tt
 option_linked nodes links (Some root) h e = only_linked (length nodes) links root h e
+
+-- what isn't loaded below the root to which links lead stands
+pub option_stands : (s : VolumeState) (nodes : List TableNode) (links : List Link) (o : Option Root) → DoLinksStand s nodes links → only_root links ≡ o → DoesRootStand s nodes o
+option_stands s nodes links None h e = tt
+option_stands s nodes links (Some root) h e = only_stands s nodes links root e h
+
+-- what isn't loaded below a root goes on standing where nodes were added and the volume was read
+pub root_stands_on : (a b : VolumeState) (old now : List TableNode) (root : Option Root) → Keeps a b → SameShape a b → AreNodesAdded old now → IsRootIn old root → DoesRootStand a old root → DoesRootStand b now root
+root_stands_on a b old now root keeps shape added there h = root_moved a b now root keeps shape (root_stays a old now root added there h)
 
 -- a root is sound by the index below it
 pub sound_by : (nodes : List TableNode) (root : Option Root) (tree : KeyedRow) → IsRootIn nodes root → tree_at nodes root ≡ tree → AreKeysBounded 0 None tree → AreKeys tree → IsSoundRoot nodes root

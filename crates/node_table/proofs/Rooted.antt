@@ -16,6 +16,11 @@ use Rattle.index_media.specs.KeyedRow.{KeyedRow, no_more, node_in, bare}
 use Rattle.table_nodes.specs.NodeView.{NodeView, node_before, row_of, node_view_of, node_views, tree_at}
 use Rattle.table_nodes.specs.Sound.{IsSoundView, AreSoundViews}
 use Rattle.table_nodes.specs.Links.{IsLinkIn}
+use Rattle.table_nodes.specs.Stubs.{unplaced}
+use Rattle.node_cache.specs.OnVolume.{IsOnVolume}
+use Rattle.ubi_volume.specs.Volume.{VolumeState}
+use Rattle.node_table.specs.StandingLinks.{standing_none, standing_pushed, standing_root}
+use Rattle.node_table.specs.Unloaded.{AreStandingLinks, DoLinksStand, DoesRootStand}
 use Rattle.node_table.specs.Staging.{root_by, only_root, IsSoundRoot, IsTopRow}
 use Rattle.table_nodes.specs.declared.link.Link.{Link}
 use Rattle.table_nodes.specs.declared.link.Link.TheVariants.{ToLeaf, ToNode}
@@ -176,3 +181,11 @@ pushed_there old new n number e k =
     let both = ap length e in
     let sum = length-append old (n ∷ []) in
     omega (arith, both, sum, k)
+
+-- what isn't loaded below the root stands where it stood below the links: where they lead to the root alone, and where the root was added over them
+pub only_stands : (s : VolumeState) (nodes : List TableNode) (links : List Link) (root : Root) → only_root links ≡ Some root → DoLinksStand s nodes links → DoesRootStand s nodes (Some root)
+only_stands s nodes links root e h = subst (λ (r : KeyedRow). IsOnVolume s r) (only_row (unplaced nodes) links root e) h
+
+pub raised_stands : (s : VolumeState) (old new : List TableNode) (n : TableNode) (number : ℕ) (key : Key) → new ≡ old ++ n ∷ [] → number ≡ length old → n.beyond ≡ None → AreStandingLinks s old n.links.items
+    → DoesRootStand s new (Some (record { key = key; number = number }))
+raised_stands s old new n number key is last loaded below = standing_root s new key number (standing_pushed s old new n number key [] is last loaded below (standing_none s old))

@@ -1,18 +1,19 @@
--- A node that stands on a volume, added without being loaded: it is sound and clean, it stands, and the leaves below it are those of the volume.
+-- A node that stands on a volume, added without being loaded: it is sound and clean, it stands, and it shows what stands there.
 use Rattle.std.proofs.Common.{◌≡◌, ℕ, ◌+◌, ◌-◌, ◌<◌, true, List, [], ◌∷◌, ◌++◌, length, refl, ap, sym, ◌∙◌, subst, map}
 use Rattle.std.specs.Prelude.{All, None, Option, Some, nat_lt, ◌==◌, slice_get}
 use Rattle.std.specs.List.{AllByRecursion}
 use Rattle.std.proofs.lemmas.Bool.{and_from, lt-ltb, eq-eqb}
 use Rattle.std.proofs.lemmas.List.Elements.{All-cons, All-head, All-nil, All-tail}
 use Rattle.ubifs_base.specs.Key.{IsKey}
+use Rattle.ubifs_base.specs.declared.key.Key.{Key}
 use Rattle.index_tree.specs.Levels.{levelled}
-use Rattle.index_tree.specs.Shape.{Shape, contents, done, node, fits}
+use Rattle.index_tree.specs.Shape.{Shape, done, node, fits}
 use Rattle.media_sys.specs.declared.branch.Branch.{Branch}
 use Rattle.index_media.specs.Clean.{is_clean_row}
 use Rattle.index_media.specs.InsertionLaws.{clean_bare}
 use Rattle.index_media.specs.InsertionSound.{AreKeys}
-use Rattle.index_media.specs.KeyedRow.{KeyedRow, no_more, node_in, all_clean, bare}
-use Rattle.index_media.specs.PlacedRow.{PlacedRow, ended, leaf_at, node_at, all_nodes, lebs_of, plain, branches_of, stretch_of}
+use Rattle.index_media.specs.KeyedRow.{KeyedRow, no_more, node_in, all_clean}
+use Rattle.index_media.specs.PlacedRow.{PlacedRow, Stretch, ended, leaf_at, node_at, all_nodes, lebs_of, plain, branches_of, stretch_of}
 use Rattle.index_media.specs.Stored.{AreStored, IsIndexNodeAt}
 use Rattle.node_cache.specs.CleanRows.{all_is_clean, placed_again}
 use Rattle.node_cache.specs.Loaded.{IsRowOn}
@@ -20,16 +21,18 @@ use Rattle.node_cache.specs.OnVolume.{IsOnVolume}
 use Rattle.node_cache.specs.RowsOn.{below, clean_bounded, said_is_node}
 use Rattle.told_value.specs.declared.told.Told.{Told}
 use Rattle.table_nodes.specs.Beyond.{branch_at_place, lebs_held, place_by, row_told}
-use Rattle.table_nodes.specs.NodeView.{NodeView, leaves_at, node_before}
+use Rattle.table_nodes.specs.LinkLaws.{links_in_pushed}
+use Rattle.table_nodes.specs.NodeView.{NodeView, linked_before, node_before, node_views}
 use Rattle.table_nodes.specs.Sound.{IsSoundView}
 use Rattle.table_nodes.specs.StubLaws.{stub_seen, unplaced_seen}
 use Rattle.table_nodes.specs.StubRows.{row_on}
 use Rattle.table_nodes.specs.Stubs.{IsStubOf}
+use Rattle.table_nodes.specs.declared.link.Link.TheVariants.{ToNode}
 use Rattle.table_nodes.specs.declared.node.TableNode.{TableNode}
 use Rattle.table_nodes.specs.declared.seen.MediumSeen.{MediumSeen}
 use Rattle.table_nodes.specs.declared.stub_node.StubNode.{StubNode}
 use Rattle.ubi_volume.specs.Volume.{VolumeState}
-use Rattle.node_table.specs.Unloaded.{DoesRootStand}
+use Rattle.node_table.specs.Unloaded.{AreStandingLinks}
 
 -- ---- a row that stands on a volume
 stored_levelled : (media : ℕ → List ℕ) (levels : ℕ) (row : PlacedRow) → AreStored media levels row → levelled levels (plain row) ≡ true
@@ -42,7 +45,7 @@ stored_levelled media levels (node_at b c rest) h =
     let others = stored_levelled media levels rest h.3 in
     rw (above, children, others) refl
 
-clean_keys : (media : ℕ → List ℕ) (levels : ℕ) (row : PlacedRow) → AllByRecursion (λ branch. IsKey branch.key) (branches_of row) → AreStored media levels row → AreKeys (all_clean row)
+pub clean_keys : (media : ℕ → List ℕ) (levels : ℕ) (row : PlacedRow) → AllByRecursion (λ branch. IsKey branch.key) (branches_of row) → AreStored media levels row → AreKeys (all_clean row)
 unfolding AreStored
 clean_keys media levels ended k h = tt
 clean_keys media levels (leaf_at x rest) k h = (k.0, clean_keys media levels rest k.1 h.1)
@@ -118,23 +121,41 @@ there_last : (old new : List TableNode) (n : TableNode) (number : ℕ) → new �
 there_last old new n number is last =
     ap (λ (l : List TableNode). slice_get l number) is ∙ ap (λ (k : ℕ). slice_get (old ++ n ∷ []) k) last ∙ node_last old n
 
--- it stands where the branch leads
-pub stub_stands_there : (s : VolumeState) (fanout level : ℕ) (branch : Branch) (row : PlacedRow) (old new : List TableNode) (n : TableNode) (number : ℕ) (told : Told MediumSeen) → new ≡ old ++ n ∷ []
-    → number ≡ length old → IsStubOf n (record { level = level; place = place_by branch; told = told }) → told.value ≡ lebs_held s.holds s.leb_cnt → IsRowOn s fanout (level + 1) (node_at branch row ended)
-    → DoesRootStand s new (Some (record { key = branch.key; number = number }))
-stub_stands_there s fanout level branch row old new n number told is last stubbed tells on =
-    let stub : StubNode = record { level = level; place = place_by branch; told = told } in
-    let P : Option NodeView → Type 0 = λ o. IsOnVolume s (node_before branch.key o no_more) in
-    let Q : KeyedRow → Type 0 = λ r. IsOnVolume s (node_in branch.key (Some (stretch_of branch)) r no_more) in
-    subst P (sym (unplaced_seen new number n stub (there_last old new n number is last) stubbed))
-    (subst Q (sym (told_children s fanout level branch row told.value tells on)) (stored_stands s (level + 1) (node_at branch row ended) on.stored on.there))
+-- it is clean whatever key its branch has
+other_key : (s : VolumeState) (key other : Key) (place : Stretch) (children : KeyedRow) → IsOnVolume s (node_in key (Some place) children no_more) → IsOnVolume s (node_in other (Some place) children no_more)
+other_key s key other place children h =
+    let own = h.0 in
+    let n = own.node in (
+      record {
+        clean = own.clean;
+        level = own.level;
+        levels = own.levels;
+        node = record { sqnum = n.sqnum; group = n.group; room = n.room; is = n.is };
+        holds = own.holds;
+      },
+      h.1,
+      tt,
+    )
 
--- and shows the leaves that stand there
-pub stub_shows : (s : VolumeState) (fanout level : ℕ) (branch : Branch) (row : PlacedRow) (old new : List TableNode) (n : TableNode) (number : ℕ) (told : Told MediumSeen) → new ≡ old ++ n ∷ []
+-- a link to it stands where the branch leads
+pub stub_standing : (s : VolumeState) (fanout level : ℕ) (branch : Branch) (row : PlacedRow) (old new : List TableNode) (n : TableNode) (number : ℕ) (told : Told MediumSeen) → new ≡ old ++ n ∷ []
     → number ≡ length old → IsStubOf n (record { level = level; place = place_by branch; told = told }) → told.value ≡ lebs_held s.holds s.leb_cnt → IsRowOn s fanout (level + 1) (node_at branch row ended)
-    → leaves_at new (Some (record { key = branch.key; number = number })) ≡ contents (plain (node_at branch row ended))
-stub_shows s fanout level branch row old new n number told is last stubbed tells on =
+    → (key : Key) → AreStandingLinks s new (ToNode key number ∷ [])
+stub_standing s fanout level branch row old new n number told is last stubbed tells on key =
     let stub : StubNode = record { level = level; place = place_by branch; told = told } in
-    ap (λ (o : Option NodeView). contents (bare (node_before branch.key o no_more))) (stub_seen new number n stub (there_last old new n number is last) stubbed)
-    ∙ ap (λ (r : KeyedRow). contents (bare (node_in branch.key (Some (stretch_of branch)) r no_more))) (told_children s fanout level branch row told.value tells on)
-    ∙ ap contents (clean_bare (node_at branch row ended))
+    let P : Option NodeView → Type 0 = λ o. IsOnVolume s (node_before key o no_more) in
+    let Q : KeyedRow → Type 0 = λ r. IsOnVolume s (node_in key (Some (stretch_of branch)) r no_more) in
+    let own = other_key s branch.key key (stretch_of branch) (all_clean row) (stored_stands s (level + 1) (node_at branch row ended) on.stored on.there) in
+    record {
+      there = links_in_pushed old new n number key [] is last tt;
+      stand = subst P (sym (unplaced_seen new number n stub (there_last old new n number is last) stubbed)) (subst Q (sym (told_children s fanout level branch row told.value tells on)) own);
+    }
+
+-- and shows what stands there
+pub stub_linked : (s : VolumeState) (fanout level : ℕ) (branch : Branch) (row : PlacedRow) (old new : List TableNode) (n : TableNode) (number : ℕ) (told : Told MediumSeen) → new ≡ old ++ n ∷ []
+    → number ≡ length old → IsStubOf n (record { level = level; place = place_by branch; told = told }) → told.value ≡ lebs_held s.holds s.leb_cnt → IsRowOn s fanout (level + 1) (node_at branch row ended)
+    → (key : Key) (rest : KeyedRow) → linked_before (node_views new) (ToNode key number) rest ≡ node_in key (Some (stretch_of branch)) (all_clean row) rest
+stub_linked s fanout level branch row old new n number told is last stubbed tells on key rest =
+    let stub : StubNode = record { level = level; place = place_by branch; told = told } in
+    ap (λ (o : Option NodeView). node_before key o rest) (stub_seen new number n stub (there_last old new n number is last) stubbed)
+    ∙ ap (λ (r : KeyedRow). node_in key (Some (stretch_of branch)) r rest) (told_children s fanout level branch row told.value tells on)

@@ -2,6 +2,8 @@ pub mod Walk
 pub mod Unloaded
 pub mod UnloadedLaws
 pub mod UnloadedRoots
+pub mod StandingRows
+pub mod StandingLinks
 pub mod Staging
 pub mod Exchange
 pub mod Changing

@@ -1,11 +1,9 @@
 -- Walks along nodes some of which aren't loaded: what stands at a link, behind a link, and below a node, and the row at which a walk goes on on a volume.
 use Rattle.std.proofs.Common.{◌≡◌, ℕ, zero, suc, ◌+◌, true, false, List, [], ◌∷◌, ◌++◌, drop, take, length, refl, ap, sym, ◌∙◌, subst, append_assoc}
-use Rattle.std.specs.Prelude.{◌&&◌, Bool, Option, None, Some, All, is_none, is_some, if◌then◌else◌, slice_get}
+use Rattle.std.specs.Prelude.{◌&&◌, Option, None, Some, is_none, is_some, if◌then◌else◌, slice_get}
 use Rattle.std.proofs.lemmas.List.{length-map, map-append}
-use Rattle.std.proofs.lemmas.List.Elements.{All-nil, All-cons, All-append}
-use Rattle.std.proofs.lemmas.Option.{slice_get_within, get_or_from_slice_get}
 use Rattle.index_tree.specs.Shape.{fits}
-use Rattle.index_media.specs.KeyedRow.{KeyedRow, no_more, node_in, bare}
+use Rattle.index_media.specs.KeyedRow.{KeyedRow, no_more, bare}
 use Rattle.index_media.specs.Clean.{placed_of}
 use Rattle.index_media.specs.PlacedRow.{PlacedRow, Stretch, ended, node_at, plain}
 use Rattle.media_sys.specs.declared.branch.Branch.{Branch}
@@ -14,11 +12,9 @@ use Rattle.node_cache.specs.Loaded.{IsRowOn}
 use Rattle.node_cache.specs.OnVolume.{IsOnVolume}
 use Rattle.node_cache.specs.OnVolumeLaws.{node_on_volume, on_volume_moved}
 use Rattle.told_value.specs.declared.told.Told.{Told}
-use Rattle.table_nodes.specs.Beyond.{is_loaded, are_loaded}
-use Rattle.table_nodes.specs.BeyondLaws.{loaded_row}
 use Rattle.table_nodes.specs.LinkLaws.{before_none, links_kept, links_there}
 use Rattle.table_nodes.specs.Links.{AreLinksIn}
-use Rattle.table_nodes.specs.NodeView.{NodeView, children_in, linked_before, node_before, node_view_of, node_views, row_of, stretch_at, views_behind}
+use Rattle.table_nodes.specs.NodeView.{NodeView, children_in, linked_before, node_before, node_view_of, node_views, row_of}
 use Rattle.table_nodes.specs.NodeViewLaws.{children_fit, get_seam, sound_at, views_append, views_length, views_more}
 use Rattle.table_nodes.specs.Sound.{AreSoundViews}
 use Rattle.table_nodes.specs.StubLaws.{linked_row, stub_seen, stub_view, unplaced_added, unplaced_seen}
@@ -26,20 +22,19 @@ use Rattle.table_nodes.specs.Stubs.{is_stub, unplaced, unplaced_node}
 use Rattle.table_nodes.specs.declared.link.Link.{Link}
 use Rattle.table_nodes.specs.declared.link.Link.TheVariants.{ToLeaf, ToNode}
 use Rattle.table_nodes.specs.declared.node.NodePlace.{NodePlace}
-use Rattle.table_nodes.specs.declared.node.Root.{Root}
 use Rattle.table_nodes.specs.declared.node.TableNode.{TableNode}
 use Rattle.table_nodes.specs.declared.seen.MediumSeen.{MediumSeen}
 use Rattle.ubi_volume.specs.Volume.{VolumeState, Keeps, SameShape}
 use Rattle.ubifs_base.specs.declared.key.Key.{Key}
-use Rattle.node_table.specs.Unloaded.{DoesLinkStand, DoesNodeStand, DoesRootStand, DoLinksStand, IsUnloaded}
+use Rattle.node_table.specs.Unloaded.{DoesLinkStand, DoesNodeStand, DoLinksStand, IsUnloaded}
 use Rattle.node_table.specs.declared.opening.Unloaded.{Unloaded}
 
 -- ---- a link, and those behind it
-node_first : (s : VolumeState) (key : Key) (o : Option NodeView) (rest : KeyedRow) → IsOnVolume s (node_before key o rest) → IsOnVolume s (node_before key o no_more) × IsOnVolume s rest
+pub node_first : (s : VolumeState) (key : Key) (o : Option NodeView) (rest : KeyedRow) → IsOnVolume s (node_before key o rest) → IsOnVolume s (node_before key o no_more) × IsOnVolume s rest
 node_first s key None rest h = ((h.0, h.1, tt), h.2)
 node_first s key (Some v) rest h = ((h.0, h.1, tt), h.2)
 
-link_first : (s : VolumeState) (seen : List NodeView) (link : Link) (rest : KeyedRow) → IsOnVolume s (linked_before seen link rest) → IsOnVolume s (linked_before seen link no_more) × IsOnVolume s rest
+pub link_first : (s : VolumeState) (seen : List NodeView) (link : Link) (rest : KeyedRow) → IsOnVolume s (linked_before seen link rest) → IsOnVolume s (linked_before seen link no_more) × IsOnVolume s rest
 link_first s seen (ToLeaf x) rest h = (tt, h)
 link_first s seen (ToNode key number) rest h = node_first s key (slice_get seen number) rest h
 
@@ -47,7 +42,7 @@ node_again : (s : VolumeState) (key : Key) (o : Option NodeView) (rest : KeyedRo
 node_again s key None rest h r = (h.0, h.1, r)
 node_again s key (Some v) rest h r = (h.0, h.1, r)
 
-link_again : (s : VolumeState) (seen : List NodeView) (link : Link) (rest : KeyedRow) → IsOnVolume s (linked_before seen link no_more) → IsOnVolume s rest → IsOnVolume s (linked_before seen link rest)
+pub link_again : (s : VolumeState) (seen : List NodeView) (link : Link) (rest : KeyedRow) → IsOnVolume s (linked_before seen link no_more) → IsOnVolume s rest → IsOnVolume s (linked_before seen link rest)
 link_again s seen (ToLeaf x) rest h r = r
 link_again s seen (ToNode key number) rest h r = node_again s key (slice_get seen number) rest h r
 
@@ -61,12 +56,12 @@ others_stand s nodes links rest link is h =
     let seen = node_views (unplaced nodes) in
     (link_first s seen link (row_of seen rest) (subst (λ (l : List Link). IsOnVolume s (row_of seen l)) is h)).1
 
-dropped : (s : VolumeState) (seen : List NodeView) (n : ℕ) (links : List Link) → IsOnVolume s (row_of seen links) → IsOnVolume s (row_of seen (drop n links))
+pub dropped : (s : VolumeState) (seen : List NodeView) (n : ℕ) (links : List Link) → IsOnVolume s (row_of seen links) → IsOnVolume s (row_of seen (drop n links))
 dropped s seen zero links h = h
 dropped s seen (suc n) [] h = tt
 dropped s seen (suc n) (link ∷ links) h = dropped s seen n links (link_first s seen link (row_of seen links) h).1
 
-taken : (s : VolumeState) (seen : List NodeView) (n : ℕ) (links : List Link) → IsOnVolume s (row_of seen links) → IsOnVolume s (row_of seen (take n links))
+pub taken : (s : VolumeState) (seen : List NodeView) (n : ℕ) (links : List Link) → IsOnVolume s (row_of seen links) → IsOnVolume s (row_of seen (take n links))
 taken s seen zero links h = tt
 taken s seen (suc n) [] h = tt
 taken s seen (suc n) (link ∷ links) h =
@@ -84,7 +79,7 @@ front_stands s nodes links front n is h =
     subst (λ (l : List Link). IsOnVolume s (row_of seen l)) (sym is) (taken s seen n links h)
 
 -- ---- what a link leads to
-below_first : (s : VolumeState) (key : Key) (o : Option NodeView) → IsOnVolume s (node_before key o no_more) → IsOnVolume s (children_in o)
+pub below_first : (s : VolumeState) (key : Key) (o : Option NodeView) → IsOnVolume s (node_before key o no_more) → IsOnVolume s (children_in o)
 below_first s key None h = tt
 below_first s key (Some v) h = h.1
 
@@ -174,45 +169,3 @@ unplaced_row fanout nodes i n sound h loaded =
     ap children_in (view_at (unplaced nodes) (unplaced p.front) (unplaced p.back) i (unplaced_node n) parts (length-map p.front unplaced_node ∙ p.long))
     ∙ linked_row (node_views (unplaced p.front)) (unplaced_node n) (stays_loaded n.beyond n.place loaded)
     ∙ sym kept
-
--- ---- where all nodes are loaded, none of them needs to stand
-abbrev NeedsNone : VolumeState → NodeView → Type 0
-NeedsNone s v = (v.place ≡ None) × IsOnVolume s v.children
-
-free_node : (s : VolumeState) (seen : List NodeView) (key : Key) (number : ℕ) (o : Option NodeView) (rest : KeyedRow) → All (NeedsNone s) seen → slice_get seen number ≡ o → IsOnVolume s rest
-    → IsOnVolume s (node_before key o rest)
-free_node s seen key number None rest free e r = (tt, tt, r)
-free_node s seen key number (Some v) rest free e r =
-    let own = subst (NeedsNone s) (get_or_from_slice_get seen number v v e) (free number v (slice_get_within seen number v e)) in
-    let Q : Option Stretch → Type 0 = λ p. IsOnVolume s (node_in key p v.children rest) in
-    subst Q (sym own.0) (tt, own.1, r)
-
-free_link : (s : VolumeState) (seen : List NodeView) (link : Link) (rest : KeyedRow) → All (NeedsNone s) seen → IsOnVolume s rest → IsOnVolume s (linked_before seen link rest)
-free_link s seen (ToLeaf x) rest free r = r
-free_link s seen (ToNode key number) rest free r = free_node s seen key number (slice_get seen number) rest free refl r
-
-free_row : (s : VolumeState) (seen : List NodeView) (links : List Link) → All (NeedsNone s) seen → IsOnVolume s (row_of seen links)
-free_row s seen [] free = tt
-free_row s seen (link ∷ links) free = free_link s seen link (row_of seen links) free (free_row s seen links free)
-
-free_view : (s : VolumeState) (seen : List NodeView) (n : TableNode) → is_loaded n ≡ true → All (NeedsNone s) seen → NeedsNone s (node_view_of seen (unplaced_node n))
-free_view s seen n loaded free =
-    let none : (if is_loaded n then None else n.place) ≡ None = ap (λ (b : Bool). if b then None else n.place) loaded in
-    (ap stretch_at none, subst (λ (r : KeyedRow). IsOnVolume s r) (sym (loaded_row seen (unplaced_node n) loaded)) (free_row s seen n.links.items free))
-
-both_true : (a b : Bool) → (a && b) ≡ true → (a ≡ true) × (b ≡ true)
-both_true true b h = (refl, h)
-both_true false b h = absurd cc
-
-free_views : (s : VolumeState) (seen : List NodeView) (nodes : List TableNode) → are_loaded nodes ≡ true → All (NeedsNone s) seen → All (NeedsNone s) (views_behind seen (unplaced nodes))
-free_views s seen [] loaded free = free
-free_views s seen (n ∷ ns) loaded free =
-    let both = both_true (is_loaded n) (are_loaded ns) loaded in
-    let v = node_view_of seen (unplaced_node n) in
-    free_views s (seen ++ v ∷ []) ns both.1 (All-append (NeedsNone s) seen (v ∷ []) free (All-cons (NeedsNone s) v [] (free_view s seen n both.0 free) (All-nil (NeedsNone s))))
-
-pub loaded_stand : (s : VolumeState) (nodes : List TableNode) (root : Option Root) → are_loaded nodes ≡ true → DoesRootStand s nodes root
-loaded_stand s nodes None loaded = tt
-loaded_stand s nodes (Some root) loaded =
-    let seen = node_views (unplaced nodes) in
-    free_node s seen root.key root.number (slice_get seen root.number) no_more (free_views s [] nodes loaded (All-nil (NeedsNone s))) refl tt

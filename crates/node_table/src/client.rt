@@ -12,7 +12,7 @@ use index_tree::Leaf;
 use media_sys::Branch;
 use node_cache::NodeCache;
 use std::alloc::Global;
-use table_nodes::{NodePlace, Root, TableNode, see_medium};
+use table_nodes::Root;
 use ubi_volume::{AreaFault, Volume};
 use ubifs_base::Key;
 
@@ -34,19 +34,7 @@ pub fn find_below_unloaded<V: Volume>(
     ensures reads { IsReadOnlyCall (V.state volume.old) (V.state volume.new) result }
     ensures kept { AreKept (V.state volume.new).holds cache.new }
 {
-    let told = see_medium(volume);
-    let place = NodePlace {
-        lnum: branch.lnum,
-        offs: branch.offs,
-        len: branch.len,
-    };
-    let links = Vec::new(alloc);
-    let number = table.add(TableNode {
-        level,
-        place: Some(place),
-        links,
-        beyond: Some(told),
-    })?;
+    let number = table.add_unloaded(alloc, volume, branch, level)?;
     let root = Root {
         key: branch.key,
         number,

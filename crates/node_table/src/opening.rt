@@ -4,7 +4,7 @@ ghost use Rattle.std.specs.Prelude.{◌≡◌, ◌≤◌, IfSome, IfNone, Option
 ghost use Rattle.index_media.specs.KeyedKeys.{AreKeysBounded};
 ghost use Rattle.index_media.specs.KeyedRow.{no_more, bare};
 ghost use Rattle.index_tree.specs.Shape.{fits};
-ghost use Rattle.node_table.specs.Unloaded.{AreAllLoaded, IsUnloaded};
+ghost use Rattle.node_table.specs.Unloaded.{IsUnloaded};
 ghost use Rattle.table_nodes.specs.NodeView.{node_views, node_view_of, row_of, children_in, tree_at, IsRootIn};
 ghost use Rattle.table_nodes.specs.Sound.{IsSoundView};
 ghost use Rattle.table_nodes.specs.Stubs.{is_stub, unplaced};
@@ -44,19 +44,6 @@ impl NodeTable {
         match self.stored_at(number) {
             None => None,
             Some(node) => Some(node),
-        }
-    }
-
-    /// The links of a node; none where there is no such node.
-    pub(crate) fn links_of(&self, number: u64) -> Option<&[Link]>
-        requires loaded { AreAllLoaded self.now.nodes.items }
-        ensures some { IfSome result (λ links. children_in (slice_get (node_views self.now.nodes.items) number) ≡ row_of (node_views self.now.nodes.items) links.now) }
-        ensures bounded { IfSome result (λ links. AreKeysBounded 0 None (row_of (node_views self.now.nodes.items) links.now)) }
-        ensures none { IfNone result (children_in (slice_get (node_views self.now.nodes.items) number) ≡ no_more) }
-    {
-        match self.node_at(number) {
-            None => None,
-            Some(node) => Some(node.links.as_slice()),
         }
     }
 

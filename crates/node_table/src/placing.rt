@@ -6,7 +6,7 @@ ghost use Rattle.node_table.specs.Dirty.{dirty_below};
 ghost use Rattle.table_nodes.specs.NodeView.{node_views, children_in, tree_at};
 ghost use Rattle.node_table.specs.Placing.{with_place, IsPlacedRow, without_number};
 ghost use Rattle.node_table.specs.Staging.{IsSoundRoot};
-ghost use Rattle.node_table.specs.Unloaded.{AreAllLoaded};
+ghost use Rattle.table_nodes.specs.Stubs.{unplaced};
 ghost use Rattle.table_nodes.specs.declared.node.Root.{Root as ARoot};
 
 use crate::table::NodeTable;
@@ -30,7 +30,7 @@ impl NodeTable {
         ensures trees { (root : Option ARoot) → IsPlacedRow place (children_in (slice_get (node_views self.old.nodes.items) number)) (tree_at self.old.nodes.items root) (tree_at self.new.nodes.items root) }
         ensures dirty { (root : Option ARoot) → dirty_below self.new.nodes.items root ≡ without_number number (dirty_below self.old.nodes.items root) }
         ensures roots { (root : Option ARoot) → IsSoundRoot self.old.nodes.items root → IsSoundRoot self.new.nodes.items root }
-        ensures loaded { AreAllLoaded self.old.nodes.items → AreAllLoaded self.new.nodes.items }
+        ensures unplaced { unplaced self.new.nodes.items ≡ unplaced self.old.nodes.items }
         ensures fanout { self.new.fanout ≡ self.old.fanout }
     {
         put_place(&mut self.nodes, number, place);

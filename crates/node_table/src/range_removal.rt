@@ -4,7 +4,9 @@ ghost use Rattle.std.specs.Prelude.{◌≡◌, ◌-◌, ◌^◌, min, IfOk, leng
 ghost use Rattle.index_tree.specs.Order.{key_rank};
 ghost use Rattle.index_tree.specs.RangeRemoval.{within_range};
 ghost use Rattle.index_media.specs.KeyedRange.{without_range_by_keys};
-ghost use Rattle.node_table.specs.Unloaded.{AreAllLoaded};
+ghost use Rattle.node_cache.specs.Kept.{AreKept};
+ghost use Rattle.node_cache.specs.Loaded.{IsReadOnlyCall};
+ghost use Rattle.node_table.specs.Unloaded.{DoesRootStand};
 ghost use Rattle.table_nodes.specs.NodeView.{tree_at, leaves_at};
 ghost use Rattle.table_nodes.specs.Links.{AreNodesAdded};
 ghost use Rattle.node_table.specs.Staging.{IsSoundRoot};
@@ -14,10 +16,11 @@ use crate::table::NodeTable;
 use index_media::{
     a_range_removal_keeps_what_nodes_are, a_range_removal_leaves_the_keys_of_branches,
 };
-use node_cache::rank;
+use node_cache::{NodeCache, rank};
 use std::alloc::Global;
 use table_nodes::Root;
-use ubifs_base::{Key, Memory};
+use ubi_volume::{AreaFault, Volume};
+use ubifs_base::Key;
 
 /// What a removal of a range makes: the root of what is left, and how many leaves went (`u64::MAX` stands for more as well).
 #[derive(Clone, Copy, Debug, PartialEq, Eq)]
@@ -28,22 +31,27 @@ pub struct RangeRemoved {
 
 impl NodeTable {
     /// Stages a removal of a range: takes out the leaves with keys from `from` to `to`, both included, with the nodes that this
-    /// empties. All nodes stay where they stood, and below each root stands what stood there, after `Memory` too.
-    pub fn remove_range(
+    /// empties. All nodes stay where they stood, and below each root stands what stood there, after a fault too.
+    pub fn remove_range<V: Volume>(
         &mut self,
         alloc: Global,
+        volume: &mut V,
+        cache: &mut NodeCache,
         root: Option<Root>,
         from: &Key,
         to: &Key,
-    ) -> Result<RangeRemoved, Memory>
+    ) -> Result<RangeRemoved, AreaFault>
         requires root { IsSoundRoot self.old.nodes.items root }
-        requires loaded { AreAllLoaded self.old.nodes.items }
+        requires stands { DoesRootStand (V.state volume.old) self.old.nodes.items root }
+        requires kept { AreKept (V.state volume.old).holds cache.old }
         ensures made { IfOk result (λ made. tree_at self.new.nodes.items made.root ≡ without_range_by_keys (key_rank from.now) (key_rank to.now) (tree_at self.old.nodes.items root)) }
         ensures number { IfOk result (λ made. made.number ≡ min (length (within_range (key_rank from.now) (key_rank to.now) (leaves_at self.old.nodes.items root))) (2 ^ 64 - 1)) }
         ensures root { IfOk result (λ made. IsSoundRoot self.new.nodes.items made.root) }
         ensures added { AreNodesAdded self.old.nodes.items self.new.nodes.items }
-        ensures loaded { AreAllLoaded self.new.nodes.items }
+        ensures stands { IfOk result (λ made. DoesRootStand (V.state volume.new) self.new.nodes.items made.root) }
         ensures fanout { self.new.fanout ≡ self.old.fanout }
+        ensures reads { IsReadOnlyCall (V.state volume.old) (V.state volume.new) result }
+        ensures kept { AreKept (V.state volume.new).holds cache.new }
     {
         a_range_removal_keeps_what_nodes_are();
         a_range_removal_leaves_the_keys_of_branches();
@@ -56,13 +64,16 @@ impl NodeTable {
             }),
             Some(top) => {
                 let mut made = Vec::new(alloc);
-                let number = self.prune_below(alloc, top, low, high, &mut made)?;
+                let number = self.prune_below(alloc, volume, cache, top, low, high, &mut made)?;
                 match only_node(made.as_slice()) {
                     None => Ok(RangeRemoved { root: None, number }),
-                    Some(left) => Ok(RangeRemoved {
-                        root: Some(self.sink_root(left)),
-                        number,
-                    }),
+                    Some(left) => {
+                        let sunk = self.sink_root(alloc, volume, cache, left)?;
+                        Ok(RangeRemoved {
+                            root: Some(sunk),
+                            number,
+                        })
+                    }
                 }
             }
         }

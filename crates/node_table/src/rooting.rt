@@ -1,19 +1,22 @@
 // An insertion answers another root, and the old one goes on showing the old index.
 
-ghost use Rattle.std.specs.Prelude.{◌≡◌, ◌+◌, IfOk, Option, Some};
+ghost use Rattle.std.specs.Prelude.{◌≡◌, ◌+◌, IfOk, Some};
 ghost use Rattle.index_media.specs.Insertion.{with_leaf_by_keys};
-ghost use Rattle.node_table.specs.Unloaded.{AreAllLoaded};
-ghost use Rattle.table_nodes.specs.NodeView.{tree_at, IsRootIn};
+ghost use Rattle.node_cache.specs.Kept.{AreKept};
+ghost use Rattle.node_cache.specs.Loaded.{IsReadOnlyCall};
+ghost use Rattle.node_table.specs.Unloaded.{DoesRootStand};
+ghost use Rattle.table_nodes.specs.NodeView.{tree_at};
 ghost use Rattle.table_nodes.specs.Links.{AreNodesAdded};
 ghost use Rattle.node_table.specs.Staging.{only_root, IsSoundRoot, IsTopRow};
-ghost use Rattle.table_nodes.specs.declared.node.Root.{Root as ARoot};
 ghost use Rattle.ubifs_base.specs.Key.{IsKey};
 
 use crate::insertion::first_key;
 use crate::table::NodeTable;
 use index_tree::Leaf;
+use node_cache::NodeCache;
 use std::alloc::Global;
 use table_nodes::{Link, Root, TableNode};
+use ubi_volume::{AreaFault, Volume};
 use ubifs_base::Memory;
 
 /// The node that links lead to, if they are one link to a node.
@@ -60,20 +63,29 @@ impl NodeTable {
     }
 
     /// Stages an insertion: puts the leaf after all leaves whose key isn't greater, by the keys of branches, and answers the
-    /// new root. All nodes stay where they stood, and below each root stands what stood there, after `Memory` too.
-    pub fn insert(&mut self, alloc: Global, root: Option<Root>, leaf: Leaf) -> Result<Root, Memory>
+    /// new root. All nodes stay where they stood, and below each root stands what stood there, after a fault too.
+    pub fn insert<V: Volume>(
+        &mut self,
+        alloc: Global,
+        volume: &mut V,
+        cache: &mut NodeCache,
+        root: Option<Root>,
+        leaf: Leaf,
+    ) -> Result<Root, AreaFault>
         requires root { IsSoundRoot self.old.nodes.items root }
         requires key { IsKey leaf.key }
-        requires loaded { AreAllLoaded self.old.nodes.items }
+        requires stands { DoesRootStand (V.state volume.old) self.old.nodes.items root }
+        requires kept { AreKept (V.state volume.old).holds cache.old }
         ensures made { IfOk result (λ made. tree_at self.new.nodes.items (Some made) ≡ with_leaf_by_keys self.old.fanout leaf (tree_at self.old.nodes.items root)) }
         ensures root { IfOk result (λ made. IsSoundRoot self.new.nodes.items (Some made)) }
-        ensures kept { (other : Option ARoot) → IsRootIn self.old.nodes.items other → tree_at self.new.nodes.items other ≡ tree_at self.old.nodes.items other }
+        ensures stands { IfOk result (λ made. DoesRootStand (V.state volume.new) self.new.nodes.items (Some made)) }
         ensures added { AreNodesAdded self.old.nodes.items self.new.nodes.items }
-        ensures loaded { AreAllLoaded self.new.nodes.items }
         ensures fanout { self.new.fanout ≡ self.old.fanout }
+        ensures reads { IsReadOnlyCall (V.state volume.old) (V.state volume.new) result }
+        ensures kept { AreKept (V.state volume.new).holds cache.new }
     {
         let level = self.level_above(root)?;
-        let links = self.insert_row(alloc, root, leaf)?;
+        let links = self.insert_row(alloc, volume, cache, root, leaf)?;
         match only_node(links.as_slice()) {
             Some(top) => Ok(top),
             None => {

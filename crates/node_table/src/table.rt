@@ -8,11 +8,10 @@ ghost use Rattle.index_tree.specs.Removal.{holds};
 ghost use Rattle.index_media.specs.KeyedRow.{no_more, node_in};
 ghost use Rattle.node_cache.specs.Kept.{AreKept};
 ghost use Rattle.node_cache.specs.Loaded.{IsReadOnlyCall};
-ghost use Rattle.table_nodes.specs.Beyond.{is_loaded};
 ghost use Rattle.table_nodes.specs.Clean.{is_clean_below, are_clean_below};
 ghost use Rattle.node_table.specs.Bounds.{AreNoLonger, no_longer-prop};
 ghost use Rattle.node_table.specs.Dirty.{dirty_lists};
-ghost use Rattle.node_table.specs.Unloaded.{is_loaded_if_dirty, are_loaded_if_dirty, AreAllLoaded, DoesRootStand};
+ghost use Rattle.node_table.specs.Unloaded.{is_loaded_if_dirty, are_loaded_if_dirty, DoesRootStand};
 ghost use Rattle.table_nodes.specs.NodeView.{node_views, node_view_of, stretch_at, tree_at, leaves_at, IsRootIn};
 ghost use Rattle.table_nodes.specs.Sound.{IsSoundView, AreSoundViews, sound_views-prop};
 ghost use Rattle.table_nodes.specs.declared.node.Root.{Root as ARoot};
@@ -68,7 +67,6 @@ impl NodeTable {
         requires dirty { is_loaded_if_dirty node ≡ true }
         ensures made { IfOk result (λ number. (key : AKey) → tree_at self.new.nodes.items (Some (record { key = key; number = number })) ≡ node_in key (stretch_at node.place) (node_view_of (node_views self.old.nodes.items) node).children no_more) }
         ensures added { OnOk result (self.new.nodes.items ≡ self.old.nodes.items ++ node ∷ []) }
-        ensures loaded { AreAllLoaded self.old.nodes.items → is_loaded node ≡ true → AreAllLoaded self.new.nodes.items }
         ensures number { IfOk result (λ number. number ≡ length self.old.nodes.items) }
         ensures kept { (root : Option ARoot) → IsRootIn self.old.nodes.items root → tree_at self.new.nodes.items root ≡ tree_at self.old.nodes.items root }
         ensures fanout { self.new.fanout ≡ self.old.fanout }

@@ -1,50 +1,55 @@
-use Rattle.std.proofs.Common.{None, Bool, false, List, ◌≡◌, ◌∷◌, ◌++◌, ◌-◌, ◌<◌, [], ap, sym, subst, ◌∙◌, arith, length}
+use Rattle.std.proofs.Common.{None, Bool, true, false, List, ℕ, ◌≡◌, ◌∷◌, ◌++◌, ◌-◌, ◌<◌, [], ap, sym, subst, ◌∙◌, arith, length}
 use Rattle.std.proofs.lemmas.Bool.Decides.{nat_tests}
 use Rattle.std.specs.Prelude.{IfOk, OnOk, slice_get}
 use Rattle.index_tree.specs.Removal.{holds}
-use Rattle.index_tree.specs.Shape.{contents, done}
+use Rattle.index_tree.specs.Shape.{contents, done, fits}
 use Rattle.index_media.specs.InsertionSound.{fit_node}
 use Rattle.index_media.specs.KeyedRow.{KeyedRow, no_more, bare}
 use Rattle.node_table.specs.Exchange.{exchanged_row, links_to}
+use Rattle.table_nodes.specs.LinkLaws.{added_both}
 use Rattle.table_nodes.specs.NodeView.{node_views, row_of}
 use Rattle.table_nodes.specs.Sound.{IsSoundView}
-use Rattle.table_nodes.specs.Links.{row_before, AreLinksIn}
+use Rattle.table_nodes.specs.Links.{row_before}
+use Rattle.node_table.specs.StandingLinks.{standing_both, standing_first, standing_none, standing_on, standing_rest}
+use Rattle.node_table.specs.Unloaded.{AreStandingLinks, DoLinksStand}
+use Rattle.node_table.specs.UnloadedLaws.{first_stands}
 use Rattle.node_table.specs.Walk.{inside}
 use Rattle.table_nodes.specs.declared.link.Link.{Link}
 use Rattle.table_nodes.specs.declared.link.Link.TheVariants.{ToNode}
-use Rattle.node_table.proofs.Exchanged.{lower_inside, behind_bounded, found_outside, found_inside, other_leaf, none_among, among_out, among_taken, among_below, among_beside, among_on, links_to_in, rest_kept, below_stays, below_gone, below_left, left_sound}
-use Rattle.node_table.proofs.Inserted.{first_there, rest_there, rest_fits, row_kept, made_row}
+use Rattle.node_table.proofs.Exchanged.{lower_inside, behind_bounded, found_outside, found_inside, other_leaf, none_among, among_out, among_taken, among_below, among_beside, among_on, rest_kept, below_stays, below_gone, below_left, left_sound}
+use Rattle.node_table.proofs.Exchanged.{links_to_standing, root_link, standing_through}
+use Rattle.node_table.proofs.Inserted.{first_there, rest_fits, row_kept, made_row, row_standing}
 use Rattle.node_table.proofs.Rows.{row_size, linked_size}
-use Rattle.table_nodes.specs.LinkLaws.{links_in_append, links_in_added}
+use Rattle.node_table.proofs.Walked.{rest_small}
 use Rattle.node_table.proofs.table.NodeTable.+exchanging.Goals as goal
 
 pub exchange_among-exchange_among-requires : goal.exchange_among-exchange_among-requires
-exchange_among-exchange_among-requires t c =
+exchange_among-exchange_among-requires g t c κs within =
+    let a = g.V.Volume.state c.args.volume.now in
     let old = c.args.self.now.nodes.items in
     let seen = node_views old in
     let f = c.args.self.now.fanout in
     let is = c.in-Some.ensures.cases.0 in
     let link = c.in-Some.link.now in
+    let links = c.args.links.now in
     let rest = c.in-Some.rest.now in
-    let size = linked_size seen link (row_of seen rest) in
-    let same = ap (λ v. row_size (row_of seen v)) is in
-    let P : List Link → Type 0 = λ v. AreLinksIn (length old) v in (
-      omega (arith, size, same),
+    let made = c.args.made.now.items in
+    let small = rest_small seen links rest link is in
+    let own = row_standing a f old links c.requires.sound c.requires.stands in
+    let P : List Link → Type 0 = λ v. AreStandingLinks a old v in
+    let pushed = subst P (sym c.in_ok-push-in-Some.ensures.items) (standing_both a old made (link ∷ []) c.requires.there (standing_first a old links rest link is own)) in (
+      omega (arith, small, c.decreases),
       (
-        (rest_fits f seen link rest c.args.links.now is c.requires.sound).1,
+        within,
         (
-          behind_bounded seen link rest c.args.links.now is c.requires.bounded,
-          (
-            subst P (sym c.in_ok-push-in-Some.ensures.items)
-                (links_in_append (length old) c.args.made.now.items (link ∷ []) c.requires.there (first_there f old link rest c.args.links.now is c.requires.sound, tt)),
-            (c.requires.key, c.requires.loaded),
-          ),
+          (rest_fits f seen link rest links is c.requires.sound).1,
+          (behind_bounded seen link rest links is c.requires.bounded, (pushed, (c.requires.key, ((standing_rest a old links rest link is own).stand, c.requires.kept)))),
         ),
       ),
     )
 
 pub exchange_among-returns-then-begin_below-clause-found : goal.exchange_among-returns-then-begin_below-clause-found
-exchange_among-returns-then-begin_below-clause-found t c =
+exchange_among-returns-then-begin_below-clause-found g t c =
     let seen = node_views c.args.self.now.nodes.items in
     let gone = c.args.gone.now in
     let is = c.in-Some.ensures.cases.0 in
@@ -56,7 +61,7 @@ exchange_among-returns-then-begin_below-clause-found t c =
     subst Q (found_outside seen gone link rest c.args.links.now is out) c.exchange_among.ensures.found
 
 pub exchange_among-returns-then-begin_below-clause-made : goal.exchange_among-returns-then-begin_below-clause-made
-exchange_among-returns-then-begin_below-clause-made t c =
+exchange_among-returns-then-begin_below-clause-made g t c =
     let seen = node_views c.args.self.now.nodes.items in
     let gone = c.args.gone.now in
     let is = c.in-Some.ensures.cases.0 in
@@ -70,7 +75,7 @@ exchange_among-returns-then-begin_below-clause-made t c =
     c.exchange_among.ensures.made
 
 pub exchange_among-returns-then-same_leaf-clause-made : goal.exchange_among-returns-then-same_leaf-clause-made
-exchange_among-returns-then-same_leaf-clause-made t c =
+exchange_among-returns-then-same_leaf-clause-made g t c =
     let seen = node_views c.args.self.now.nodes.items in
     let rest = c.in-Some.rest.now in
     let is = c.in-Some.ensures.cases.0 ∙ ap (λ (l : Link). l ∷ rest) c.in-ToLeaf.is in
@@ -79,64 +84,69 @@ exchange_among-returns-then-same_leaf-clause-made t c =
     ∙ among_taken seen c.args.gone.now c.in-ToLeaf.leaf c.args.come rest c.args.links.now c.args.made.now.items is (sym c.same_leaf.ensures ∙ c.if-same_leaf.true)
 
 pub exchange_among-returns-then-same_leaf-clause-there : goal.exchange_among-returns-then-same_leaf-clause-there
-exchange_among-returns-then-same_leaf-clause-there t c =
+exchange_among-returns-then-same_leaf-clause-there g t c =
+    let a = g.V.Volume.state c.args.volume.now in
     let old = c.args.self.now.nodes.items in
-    let n = length old in
+    let links = c.args.links.now in
     let rest = c.in-Some.rest.now in
     let made = c.args.made.now.items in
+    let come = c.args.come in
     let items = c.in_ok-extend_from_slice-in-ToLeaf.ensures.items ∙ ap (λ (v : List Link). v ++ rest) c.in_ok-push_leaf-in-ToLeaf.ensures in
-    let P : List Link → Type 0 = λ v. AreLinksIn n v in
+    let own = row_standing a c.args.self.now.fanout old links c.requires.sound c.requires.stands in
+    let P : List Link → Type 0 = λ v. AreStandingLinks a old v in
     subst P (sym items)
-    (links_in_append n (made ++ links_to c.args.come) rest (links_in_append n made (links_to c.args.come) c.requires.there (links_to_in n c.args.come))
-    (rest_there c.args.self.now.fanout old c.in-Some.link.now rest c.args.links.now c.in-Some.ensures.cases.0 c.requires.sound))
+    (standing_both a old (made ++ links_to come) rest (standing_both a old made (links_to come) c.requires.there (links_to_standing a old come))
+    (standing_rest a old links rest c.in-Some.link.now c.in-Some.ensures.cases.0 own))
 
 pub exchange_among-exchange_among-requires-in-ToLeaf : goal.exchange_among-exchange_among-requires-in-ToLeaf
-exchange_among-exchange_among-requires-in-ToLeaf t c =
+exchange_among-exchange_among-requires-in-ToLeaf g t c κs within =
+    let a = g.V.Volume.state c.args.volume.now in
     let old = c.args.self.now.nodes.items in
     let seen = node_views old in
     let f = c.args.self.now.fanout in
     let is = c.in-Some.ensures.cases.0 in
     let link = c.in-Some.link.now in
+    let links = c.args.links.now in
     let rest = c.in-Some.rest.now in
-    let size = linked_size seen link (row_of seen rest) in
-    let same = ap (λ v. row_size (row_of seen v)) is in
-    let P : List Link → Type 0 = λ v. AreLinksIn (length old) v in (
-      omega (arith, size, same),
+    let made = c.args.made.now.items in
+    let small = rest_small seen links rest link is in
+    let own = row_standing a f old links c.requires.sound c.requires.stands in
+    let P : List Link → Type 0 = λ v. AreStandingLinks a old v in
+    let pushed = subst P (sym c.in_ok-push-in-ToLeaf.ensures.items) (standing_both a old made (link ∷ []) c.requires.there (standing_first a old links rest link is own)) in (
+      omega (arith, small, c.decreases),
       (
-        (rest_fits f seen link rest c.args.links.now is c.requires.sound).1,
+        within,
         (
-          behind_bounded seen link rest c.args.links.now is c.requires.bounded,
-          (
-            subst P (sym c.in_ok-push-in-ToLeaf.ensures.items)
-                (links_in_append (length old) c.args.made.now.items (link ∷ []) c.requires.there (first_there f old link rest c.args.links.now is c.requires.sound, tt)),
-            (c.requires.key, c.requires.loaded),
-          ),
+          (rest_fits f seen link rest links is c.requires.sound).1,
+          (behind_bounded seen link rest links is c.requires.bounded, (pushed, (c.requires.key, ((standing_rest a old links rest link is own).stand, c.requires.kept)))),
         ),
       ),
     )
 
 pub exchange_among-exchange_below-requires : goal.exchange_among-exchange_below-requires
-exchange_among-exchange_below-requires t c =
+exchange_among-exchange_below-requires g t c κs within =
+    let a = g.V.Volume.state c.args.volume.now in
     let old = c.args.self.now.nodes.items in
     let seen = node_views old in
+    let links = c.args.links.now in
     let rest = c.in-Some.rest.now in
     let link = ToNode c.in-ToNode.key c.in-ToNode.number in
     let is = c.in-Some.ensures.cases.0 ∙ ap (λ (l : Link). l ∷ rest) c.in-ToNode.is in
     let size = linked_size seen link (row_of seen rest) in
-    let same = ap (λ v. row_size (row_of seen v)) is in (
-      omega (arith, size, same),
-      (first_there c.args.self.now.fanout old link rest c.args.links.now is c.requires.sound, (c.requires.there, (c.requires.key, c.requires.loaded))),
-    )
+    let same = ap (λ v. row_size (row_of seen v)) is in
+    let there = first_there c.args.self.now.fanout old link rest links is c.requires.sound in
+    let stands = first_stands a old links rest link is c.requires.stands in
+    (omega (arith, size, same, c.decreases), (within, (there, (c.requires.there, (c.requires.key, (stands, c.requires.kept))))))
 
 pub exchange_among-returns-then-branch-clause-found : goal.exchange_among-returns-then-branch-clause-found
-exchange_among-returns-then-branch-clause-found t c =
+exchange_among-returns-then-branch-clause-found g t c =
     let seen = node_views c.args.self.now.nodes.items in
     let rest = c.in-Some.rest.now in
     let is = c.in-Some.ensures.cases.0 ∙ ap (λ (l : Link). l ∷ rest) c.in-ToNode.is in
     found_inside seen c.args.gone.now (ToNode c.in-ToNode.key c.in-ToNode.number) rest c.args.links.now is (sym c.in_ok-exchange_below-in-ToNode.ensures.found ∙ c.if-branch.true)
 
 pub exchange_among-returns-then-branch-clause-made : goal.exchange_among-returns-then-branch-clause-made
-exchange_among-returns-then-branch-clause-made t c =
+exchange_among-returns-then-branch-clause-made g t c =
     let old = c.args.self.now.nodes.items in
     let now = c.exchange_below.new.self.nodes.items in
     let rest = c.in-Some.rest.now in
@@ -146,34 +156,45 @@ exchange_among-returns-then-branch-clause-made t c =
     is c.in_ok-exchange_below-in-ToNode.ensures.added c.requires.sound (sym c.in_ok-exchange_below-in-ToNode.ensures.found ∙ c.if-branch.true) c.in_ok-exchange_below-in-ToNode.ensures.made
 
 pub exchange_among-returns-then-branch-clause-there : goal.exchange_among-returns-then-branch-clause-there
-exchange_among-returns-then-branch-clause-there t c =
+exchange_among-returns-then-branch-clause-there g t c =
+    let a = g.V.Volume.state c.args.volume.now in
+    let b = g.V.Volume.state c.exchange_below.new.volume in
     let old = c.args.self.now.nodes.items in
     let now = c.exchange_below.new.self.nodes.items in
+    let links = c.args.links.now in
     let rest = c.in-Some.rest.now in
-    let P : List Link → Type 0 = λ v. AreLinksIn (length now) v in
-    subst P (sym c.in_ok-extend_from_slice-in-ToNode.ensures.items)
-    (links_in_append (length now) c.exchange_below.new.made.items rest c.in_ok-exchange_below-in-ToNode.ensures.there
-    (links_in_added old now rest c.in_ok-exchange_below-in-ToNode.ensures.added (rest_there c.args.self.now.fanout old c.in-Some.link.now rest c.args.links.now c.in-Some.ensures.cases.0 c.requires.sound)))
+    let reads = c.exchange_below.ensures.reads in
+    let own = row_standing a c.args.self.now.fanout old links c.requires.sound c.requires.stands in
+    let back = standing_on a b old now rest reads.keeps reads.shape c.exchange_below.ensures.added (standing_rest a old links rest c.in-Some.link.now c.in-Some.ensures.cases.0 own) in
+    let P : List Link → Type 0 = λ v. AreStandingLinks b now v in
+    subst P (sym c.in_ok-extend_from_slice-in-ToNode.ensures.items) (standing_both b now c.exchange_below.new.made.items rest c.in_ok-exchange_below-in-ToNode.ensures.there back)
 
 pub exchange_among-exchange_among-requires-then-begin_within : goal.exchange_among-exchange_among-requires-then-begin_within
-exchange_among-exchange_among-requires-then-begin_within t c =
+exchange_among-exchange_among-requires-then-begin_within g t c κs within =
+    let a = g.V.Volume.state c.args.volume.now in
+    let b = g.V.Volume.state c.exchange_below.new.volume in
     let old = c.args.self.now.nodes.items in
     let now = c.exchange_below.new.self.nodes.items in
     let seen = node_views old in
     let f = c.args.self.now.fanout in
     let is = c.in-Some.ensures.cases.0 in
     let link = c.in-Some.link.now in
+    let links = c.args.links.now in
     let rest = c.in-Some.rest.now in
-    let added = c.in_ok-exchange_below-in-ToNode.ensures.added in
-    let fit = (rest_fits f seen link rest c.args.links.now is c.requires.sound).1 in
-    let kept = rest_kept f c.exchange_below.new.self.fanout old now rest c.in_ok-exchange_below-in-ToNode.ensures.fanout added fit (behind_bounded seen link rest c.args.links.now is c.requires.bounded) in
-    let size = linked_size seen link (row_of seen rest) in
-    let same = ap (λ v. row_size (row_of seen v)) is in
+    let reads = c.exchange_below.ensures.reads in
+    let added = c.exchange_below.ensures.added in
+    let fit = (rest_fits f seen link rest links is c.requires.sound).1 in
+    let kept = rest_kept f c.exchange_below.new.self.fanout old now rest c.exchange_below.ensures.fanout added fit (behind_bounded seen link rest links is c.requires.bounded) in
+    let small = rest_small seen links rest link is in
     let later = ap row_size (row_kept f old now rest added fit) in
-    (omega (arith, size, same, later), (kept.0, (kept.1, (c.in_ok-exchange_below-in-ToNode.ensures.there, (c.requires.key, c.in_ok-exchange_below-in-ToNode.ensures.loaded)))))
+    let own = row_standing a f old links c.requires.sound c.requires.stands in
+    let back = standing_on a b old now rest reads.keeps reads.shape added (standing_rest a old links rest link is own) in (
+      omega (arith, small, later, c.decreases),
+      (within, (kept.0, (kept.1, (c.in_ok-exchange_below-in-ToNode.ensures.there, (c.requires.key, (back.stand, c.exchange_below.ensures.kept)))))),
+    )
 
 pub exchange_among-returns-then-begin_within-clause-found : goal.exchange_among-returns-then-begin_within-clause-found
-exchange_among-returns-then-begin_within-clause-found t c =
+exchange_among-returns-then-begin_within-clause-found g t c =
     let old = c.args.self.now.nodes.items in
     let now = c.exchange_below.new.self.nodes.items in
     let seen = node_views old in
@@ -187,7 +208,7 @@ exchange_among-returns-then-begin_within-clause-found t c =
     c.exchange_among-then-begin_within.ensures.found
 
 pub exchange_among-returns-then-begin_within-clause-made : goal.exchange_among-returns-then-begin_within-clause-made
-exchange_among-returns-then-begin_within-clause-made t c =
+exchange_among-returns-then-begin_within-clause-made g t c =
     let old = c.args.self.now.nodes.items in
     let now = c.exchange_below.new.self.nodes.items in
     let rest = c.in-Some.rest.now in
@@ -199,7 +220,7 @@ exchange_among-returns-then-begin_within-clause-made t c =
     c.exchange_among-then-begin_within.ensures.made
 
 pub exchange_among-returns-in_ok-push-in-ToLeaf-clause-made : goal.exchange_among-returns-in_ok-push-in-ToLeaf-clause-made
-exchange_among-returns-in_ok-push-in-ToLeaf-clause-made t c =
+exchange_among-returns-in_ok-push-in-ToLeaf-clause-made g t c =
     let seen = node_views c.args.self.now.nodes.items in
     let gone = c.args.gone.now in
     let link = c.in-Some.link.now in
@@ -212,14 +233,14 @@ exchange_among-returns-in_ok-push-in-ToLeaf-clause-made t c =
     c.exchange_among-in-ToLeaf.ensures.made
 
 pub exchange_among-returns-in_ok-extend_from_slice-in-ToNode-2-clause-found : goal.exchange_among-returns-in_ok-extend_from_slice-in-ToNode-2-clause-found
-exchange_among-returns-in_ok-extend_from_slice-in-ToNode-2-clause-found t c =
+exchange_among-returns-in_ok-extend_from_slice-in-ToNode-2-clause-found g t c =
     let rest = c.in-Some.rest.now in
     let is = c.in-Some.ensures.cases.0 ∙ ap (λ (l : Link). l ∷ rest) c.in-ToNode.is in
     sym (none_among (node_views c.args.self.now.nodes.items) c.rank-in-ToNode.result c.args.gone.now (ToNode c.in-ToNode.key c.in-ToNode.number) rest c.args.links.now is c.rank-in-ToNode.ensures c.requires.bounded
     (sym c.begin_within.ensures ∙ c.if-begin_within.false) (sym c.in_ok-exchange_below-in-ToNode.ensures.found ∙ c.if-branch.false))
 
 pub exchange_among-returns-in_ok-extend_from_slice-in-ToNode-2-clause-made : goal.exchange_among-returns-in_ok-extend_from_slice-in-ToNode-2-clause-made
-exchange_among-returns-in_ok-extend_from_slice-in-ToNode-2-clause-made t c =
+exchange_among-returns-in_ok-extend_from_slice-in-ToNode-2-clause-made g t c =
     let old = c.args.self.now.nodes.items in
     let now = c.exchange_below.new.self.nodes.items in
     let rest = c.in-Some.rest.now in
@@ -232,88 +253,160 @@ exchange_among-returns-in_ok-extend_from_slice-in-ToNode-2-clause-made t c =
     is c.in_ok-exchange_below-in-ToNode.ensures.added c.requires.sound out none c.in_ok-exchange_below-in-ToNode.ensures.made
 
 pub exchange_among-returns-in_ok-extend_from_slice-in-ToNode-2-clause-there : goal.exchange_among-returns-in_ok-extend_from_slice-in-ToNode-2-clause-there
-exchange_among-returns-in_ok-extend_from_slice-in-ToNode-2-clause-there t c =
+exchange_among-returns-in_ok-extend_from_slice-in-ToNode-2-clause-there g t c =
+    let a = g.V.Volume.state c.args.volume.now in
+    let b = g.V.Volume.state c.exchange_below.new.volume in
     let old = c.args.self.now.nodes.items in
     let now = c.exchange_below.new.self.nodes.items in
+    let links = c.args.links.now in
     let rest = c.in-Some.rest.now in
-    let P : List Link → Type 0 = λ v. AreLinksIn (length now) v in
-    subst P (sym c.in_ok-extend_from_slice-in-ToNode-2.ensures.items)
-    (links_in_append (length now) c.exchange_below.new.made.items rest c.in_ok-exchange_below-in-ToNode.ensures.there
-    (links_in_added old now rest c.in_ok-exchange_below-in-ToNode.ensures.added (rest_there c.args.self.now.fanout old c.in-Some.link.now rest c.args.links.now c.in-Some.ensures.cases.0 c.requires.sound)))
+    let reads = c.exchange_below.ensures.reads in
+    let own = row_standing a c.args.self.now.fanout old links c.requires.sound c.requires.stands in
+    let back = standing_on a b old now rest reads.keeps reads.shape c.exchange_below.ensures.added (standing_rest a old links rest c.in-Some.link.now c.in-Some.ensures.cases.0 own) in
+    let P : List Link → Type 0 = λ v. AreStandingLinks b now v in
+    subst P (sym c.in_ok-extend_from_slice-in-ToNode-2.ensures.items) (standing_both b now c.exchange_below.new.made.items rest c.in_ok-exchange_below-in-ToNode.ensures.there back)
+
+pub exchange_below-opened_copy-requires-clause-stands : goal.exchange_below-opened_copy-requires-clause-stands
+exchange_below-opened_copy-requires-clause-stands g t c = (c.args.top.key, c.requires.stands)
+
+pub exchange_below-exchange_among-requires : goal.exchange_below-exchange_among-requires
+exchange_below-exchange_among-requires g t c κs within =
+    let m = g.V.Volume.state c.opened_copy.new.volume in
+    let mid = c.opened_copy.new.self.nodes.items in
+    let seen = node_views mid in
+    let links = c.as_slice.result.now in
+    let value = sym c.as_slice.ensures.value in
+    let whole = ap row_size (c.in_ok-node.ensures.children ∙ ap (row_of seen) value) in
+    let S : List Link → Type 0 = λ v. IsSoundView c.args.self.now.fanout (record { level = c.in_ok-node.node.level; place = None; children = row_of seen v }) in
+    let sound = subst S value c.in_ok-node.ensures.sound in
+    let F : ℕ → Type 0 = λ n. fits n (bare (row_of seen links)) ≡ true in
+    let fit = subst F (sym c.opened_copy.ensures.fanout) (fit_node c.args.self.now.fanout (bare (row_of seen links)) done sound.0).children in
+    let L : List Link → Type 0 = λ v. DoLinksStand m mid v in
+    let M : List Link → Type 0 = λ v. AreStandingLinks m mid v in
+    let none = subst M (sym c.new-links.ensures.items) (standing_none m mid) in (
+      omega (arith, whole, c.decreases),
+      (within, (fit, (sound.2, (none, (c.requires.key, (subst L value c.in_ok-node.ensures.links.stand, c.opened_copy.ensures.kept)))))),
+    )
 
 pub exchange_below-returns-then-is_empty-clause-made : goal.exchange_below-returns-then-is_empty-clause-made
-exchange_below-returns-then-is_empty-clause-made t c = λ rest.
+exchange_below-returns-then-is_empty-clause-made g t c = λ rest.
     let old = c.args.self.now.nodes.items in
+    let mid = c.opened_copy.new.self.nodes.items in
     let now = c.exchange_among.new.self.nodes.items in
-    let seen = node_views old in
+    let seen = node_views mid in
     let gone = c.args.gone.now in
     let come = c.args.come in
     let links = c.exchange_among.new.made.items in
     let row = row_of seen c.as_slice.result.now in
     let children = c.in_ok-node.ensures.children ∙ ap (row_of seen) (sym c.as_slice.ensures.value) in
-    let made = made_row old now c.new-links.result.items links _ c.new-links.ensures.items c.in_ok-exchange_among.ensures.made in
+    let made = made_row mid now c.new-links.result.items links _ c.new-links.ensures.items c.in_ok-exchange_among.ensures.made in
     let S : List Link → Type 0 = λ v. IsSoundView c.args.self.now.fanout (record { level = c.in_ok-node.node.level; place = None; children = row_of seen v }) in
     let sound = subst S (sym c.as_slice.ensures.value) c.in_ok-node.ensures.sound in
     let none : length links ≡ 0 = grind (arith, nat_tests, c.is_empty.ensures, c.if-is_empty.true, c.exchange_among.new.made.ok.0) in
-    below_gone old now gone come c.args.top.key (slice_get seen c.args.top.number) row c.args.made.now.items links rest c.exchange_keeps_nodes.ensures.number c.in_ok-exchange_among.ensures.added c.requires.there
+    let added = added_both old mid now c.in_ok-node.ensures.added c.in_ok-exchange_among.ensures.added in
+    below_gone old now gone come c.args.top.key (slice_get (node_views old) c.args.top.number) row c.args.made.now.items links rest c.exchange_keeps_nodes.ensures.number added c.requires.there.there
     children (fit_node c.args.self.now.fanout (bare row) done sound.0).least (sym c.in_ok-exchange_among.ensures.found ∙ c.if-branch.true) made none
 
 pub exchange_below-returns-then-is_empty-clause-there : goal.exchange_below-returns-then-is_empty-clause-there
-exchange_below-returns-then-is_empty-clause-there t c =
-    links_in_added c.args.self.now.nodes.items c.exchange_among.new.self.nodes.items c.args.made.now.items c.in_ok-exchange_among.ensures.added c.requires.there
+exchange_below-returns-then-is_empty-clause-there g t c =
+    let a = g.V.Volume.state c.args.volume.now in
+    let m = g.V.Volume.state c.opened_copy.new.volume in
+    let b = g.V.Volume.state c.exchange_among.new.volume in
+    let old = c.args.self.now.nodes.items in
+    let mid = c.opened_copy.new.self.nodes.items in
+    let now = c.exchange_among.new.self.nodes.items in
+    let made = c.args.made.now.items in
+    let opens = c.opened_copy.ensures.reads in
+    let reads = c.exchange_among.ensures.reads in
+    standing_through a m b old mid now made opens.keeps opens.shape reads.keeps reads.shape c.opened_copy.ensures.added c.exchange_among.ensures.added c.requires.there
 
 pub exchange_below-push_node-requires-clause-sound : goal.exchange_below-push_node-requires-clause-sound
-exchange_below-push_node-requires-clause-sound t c =
-    let old = c.args.self.now.nodes.items in
+exchange_below-push_node-requires-clause-sound g t c =
+    let mid = c.opened_copy.new.self.nodes.items in
     let now = c.exchange_among.new.self.nodes.items in
-    let seen = node_views old in
+    let seen = node_views mid in
     let gone = c.args.gone.now in
     let come = c.args.come in
     let links = c.exchange_among.new.made.items in
     let row = row_of seen c.as_slice.result.now in
-    let made = made_row old now c.new-links.result.items links _ c.new-links.ensures.items c.in_ok-exchange_among.ensures.made in
+    let made = made_row mid now c.new-links.result.items links _ c.new-links.ensures.items c.in_ok-exchange_among.ensures.made in
     let S : List Link → Type 0 = λ v. IsSoundView c.args.self.now.fanout (record { level = c.in_ok-node.node.level; place = None; children = row_of seen v }) in
     let sound = subst S (sym c.as_slice.ensures.value) c.in_ok-node.ensures.sound in
     let some : 0 < length links = grind (arith, nat_tests, c.is_empty.ensures, c.if-is_empty.false, c.exchange_among.new.made.ok.0) in
     left_sound c.args.self.now.fanout c.exchange_among.new.self.fanout c.in_ok-node.node.level now (exchanged_row gone come row) links
-    (c.exchange_keeps_nodes.ensures.sound c.args.self.now.fanout c.in_ok-node.node.level gone come row c.requires.key sound) c.in_ok-exchange_among.ensures.fanout made some
+    (c.exchange_keeps_nodes.ensures.sound c.args.self.now.fanout c.in_ok-node.node.level gone come row c.requires.key sound) (c.exchange_among.ensures.fanout ∙ c.opened_copy.ensures.fanout) made some
 
 pub exchange_below-push_node-requires-clause-there : goal.exchange_below-push_node-requires-clause-there
-exchange_below-push_node-requires-clause-there t c =
-    links_in_added c.args.self.now.nodes.items c.exchange_among.new.self.nodes.items c.args.made.now.items c.in_ok-exchange_among.ensures.added c.requires.there
+exchange_below-push_node-requires-clause-there g t c =
+    let a = g.V.Volume.state c.args.volume.now in
+    let m = g.V.Volume.state c.opened_copy.new.volume in
+    let b = g.V.Volume.state c.exchange_among.new.volume in
+    let old = c.args.self.now.nodes.items in
+    let mid = c.opened_copy.new.self.nodes.items in
+    let now = c.exchange_among.new.self.nodes.items in
+    let made = c.args.made.now.items in
+    let opens = c.opened_copy.ensures.reads in
+    let reads = c.exchange_among.ensures.reads in
+    (standing_through a m b old mid now made opens.keeps opens.shape reads.keeps reads.shape c.opened_copy.ensures.added c.exchange_among.ensures.added c.requires.there).there
 
 pub exchange_below-returns-then-branch-clause-made : goal.exchange_below-returns-then-branch-clause-made
-exchange_below-returns-then-branch-clause-made t c = λ rest.
+exchange_below-returns-then-branch-clause-made g t c = λ rest.
     let old = c.args.self.now.nodes.items in
+    let mid = c.opened_copy.new.self.nodes.items in
     let now = c.exchange_among.new.self.nodes.items in
-    let seen = node_views old in
+    let seen = node_views mid in
     let gone = c.args.gone.now in
     let come = c.args.come in
     let links = c.exchange_among.new.made.items in
     let row = row_of seen c.as_slice.result.now in
     let children = c.in_ok-node.ensures.children ∙ ap (row_of seen) (sym c.as_slice.ensures.value) in
-    let made = made_row old now c.new-links.result.items links _ c.new-links.ensures.items c.in_ok-exchange_among.ensures.made in
+    let made = made_row mid now c.new-links.result.items links _ c.new-links.ensures.items c.in_ok-exchange_among.ensures.made in
     let some : 0 < length links = grind (arith, nat_tests, c.is_empty.ensures, c.if-is_empty.false, c.exchange_among.new.made.ok.0) in
+    let added = added_both old mid now c.in_ok-node.ensures.added c.in_ok-exchange_among.ensures.added in
     c.in_ok-push_node.ensures.made rest
-    ∙ below_left old now gone come c.args.top.key (slice_get seen c.args.top.number) row c.args.made.now.items links rest c.in_ok-exchange_among.ensures.added c.requires.there
+    ∙ below_left old now gone come c.args.top.key (slice_get (node_views old) c.args.top.number) row c.args.made.now.items links rest added c.requires.there.there
     children (sym c.in_ok-exchange_among.ensures.found ∙ c.if-branch.true) made some
 
-pub exchange_below-returns-clause-made : goal.exchange_below-returns-clause-made
-exchange_below-returns-clause-made t c = λ rest.
+pub exchange_below-returns-then-branch-clause-there : goal.exchange_below-returns-then-branch-clause-there
+exchange_below-returns-then-branch-clause-there g t c =
+    let a = g.V.Volume.state c.args.volume.now in
+    let m = g.V.Volume.state c.opened_copy.new.volume in
+    let b = g.V.Volume.state c.exchange_among.new.volume in
     let old = c.args.self.now.nodes.items in
+    let mid = c.opened_copy.new.self.nodes.items in
     let now = c.exchange_among.new.self.nodes.items in
-    let seen = node_views old in
+    let made = c.args.made.now.items in
+    let opens = c.opened_copy.ensures.reads in
+    let reads = c.exchange_among.ensures.reads in
+    let front = standing_through a m b old mid now made opens.keeps opens.shape reads.keeps reads.shape c.opened_copy.ensures.added c.exchange_among.ensures.added c.requires.there in
+    c.in_ok-push_node.ensures.stands front c.in_ok-exchange_among.ensures.there
+
+pub exchange_below-returns-clause-made : goal.exchange_below-returns-clause-made
+exchange_below-returns-clause-made g t c = λ rest.
+    let old = c.args.self.now.nodes.items in
+    let mid = c.opened_copy.new.self.nodes.items in
+    let now = c.exchange_among.new.self.nodes.items in
+    let seen = node_views mid in
     let row = row_of seen c.as_slice.result.now in
     let children = c.in_ok-node.ensures.children ∙ ap (row_of seen) (sym c.as_slice.ensures.value) in
+    let added = added_both old mid now c.in_ok-node.ensures.added c.in_ok-exchange_among.ensures.added in
     ap (λ v. row_before (node_views now) v rest) c.in_ok-push.ensures.items
-    ∙ below_stays old now c.args.gone.now c.args.come c.args.top.key c.args.top.number row c.args.made.now.items rest c.requires.top c.in_ok-exchange_among.ensures.added c.requires.there
+    ∙ below_stays old now c.args.gone.now c.args.come c.args.top.key c.args.top.number row c.args.made.now.items rest c.requires.top added c.requires.there.there
     children (sym c.in_ok-exchange_among.ensures.found ∙ c.if-branch.false)
 
 pub exchange_below-returns-clause-there : goal.exchange_below-returns-clause-there
-exchange_below-returns-clause-there t c =
+exchange_below-returns-clause-there g t c =
+    let a = g.V.Volume.state c.args.volume.now in
+    let m = g.V.Volume.state c.opened_copy.new.volume in
+    let b = g.V.Volume.state c.exchange_among.new.volume in
     let old = c.args.self.now.nodes.items in
+    let mid = c.opened_copy.new.self.nodes.items in
     let now = c.exchange_among.new.self.nodes.items in
+    let made = c.args.made.now.items in
+    let opens = c.opened_copy.ensures.reads in
+    let reads = c.exchange_among.ensures.reads in
     let link = ToNode c.args.top.key c.args.top.number in
-    let P : List Link → Type 0 = λ v. AreLinksIn (length now) v in
+    let last = root_link a old c.args.top c.requires.top c.requires.stands in
+    let P : List Link → Type 0 = λ v. AreStandingLinks b now v in
     subst P (sym c.in_ok-push.ensures.items)
-    (links_in_added old now (c.args.made.now.items ++ link ∷ []) c.in_ok-exchange_among.ensures.added (links_in_append (length old) c.args.made.now.items (link ∷ []) c.requires.there (c.requires.top, tt)))
+    (standing_through a m b old mid now (made ++ link ∷ []) opens.keeps opens.shape reads.keeps reads.shape c.opened_copy.ensures.added c.exchange_among.ensures.added (standing_both a old made (link ∷ []) c.requires.there last))

@@ -5,7 +5,7 @@ use Rattle.node_table.proofs.Rows.{row_size}
 use Rattle.node_table.proofs.table.NodeTable.+exchanging.Given as goal
 
 abbrev pub decreases-exchange_below : goal.decreases-exchange_below
-decreases-exchange_below l = 3 * row_size (children_in (slice_get (node_views l.self.now.nodes.items) l.top.number)) + 1
+decreases-exchange_below g l = 3 * row_size (children_in (slice_get (node_views l.self.now.nodes.items) l.top.number)) + 1
 
 abbrev pub decreases-exchange_among : goal.decreases-exchange_among
-decreases-exchange_among l = 3 * row_size (row_of (node_views l.self.now.nodes.items) l.links.now)
+decreases-exchange_among g l = 3 * row_size (row_of (node_views l.self.now.nodes.items) l.links.now)

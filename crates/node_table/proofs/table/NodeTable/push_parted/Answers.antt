@@ -7,12 +7,14 @@ use Rattle.table_nodes.specs.NodeView.{node_views, row_of}
 use Rattle.table_nodes.specs.Sound.{IsSoundView}
 use Rattle.table_nodes.specs.Links.{row_before}
 use Rattle.table_nodes.specs.declared.link.Link.{Link}
+use Rattle.node_table.specs.StandingLinks.{standing_added, standing_dropped, standing_taken}
+use Rattle.node_table.specs.Unloaded.{AreStandingLinks}
 use Rattle.node_table.proofs.Inserted.{back_sound, back_row_kept, parted_two}
 use Rattle.node_table.proofs.Staged.{whole_sound, whole_stays, halved, front_row, back_row, links_counted}
 use Rattle.node_table.proofs.table.NodeTable.push_parted.Goals as goal
 
 pub push_node-requires-clause-sound : goal.push_node-requires-clause-sound
-push_node-requires-clause-sound c =
+push_node-requires-clause-sound g c =
     let seen = node_views c.args.self.now.nodes.items in
     let f = c.args.self.now.fanout in
     let row = row_of seen c.args.links.now in
@@ -21,7 +23,7 @@ push_node-requires-clause-sound c =
     subst P (sym c.in_ok-whole.ensures) (whole_sound f c.args.level row c.requires.grown (omega (arith, number, c.if-links-self.true)))
 
 pub returns-then-links-self-clause-made : goal.returns-then-links-self-clause-made
-returns-then-links-self-clause-made c = λ rest.
+returns-then-links-self-clause-made g c = λ rest.
     let seen = node_views c.args.self.now.nodes.items in
     let f = c.args.self.now.fanout in
     let row = row_of seen c.args.links.now in
@@ -31,7 +33,7 @@ returns-then-links-self-clause-made c = λ rest.
     (c.push_node.ensures.made rest)
 
 pub push_node-requires-2-clause-sound : goal.push_node-requires-2-clause-sound
-push_node-requires-2-clause-sound c =
+push_node-requires-2-clause-sound g c =
     let seen = node_views c.args.self.now.nodes.items in
     let f = c.args.self.now.fanout in
     let row = row_of seen c.args.links.now in
@@ -41,7 +43,7 @@ push_node-requires-2-clause-sound c =
     subst P (sym (ap (λ v. row_of seen v) (c.in_ok-front.ensures ∙ c.split_at.ensures.front) ∙ front_row seen (left_half f) c.args.links.now)) h.front
 
 pub push_node-requires-3-clause-sound : goal.push_node-requires-3-clause-sound
-push_node-requires-3-clause-sound c =
+push_node-requires-3-clause-sound g c =
     let old = c.args.self.now.nodes.items in
     let seen = node_views old in
     let f = c.args.self.now.fanout in
@@ -52,7 +54,7 @@ push_node-requires-3-clause-sound c =
     back_sound f c.push_node-2.new.self.fanout c.args.level old c.push_node-2.new.self.nodes.items c.in_ok-back.back.items _ c.in_ok-push_node.ensures.fanout c.in_ok-push_node.ensures.added back h.back
 
 pub returns-clause-made : goal.returns-clause-made
-returns-clause-made c = λ rest.
+returns-clause-made g c = λ rest.
     let old = c.args.self.now.nodes.items in
     let mid = c.push_node-2.new.self.nodes.items in
     let seen = node_views old in
@@ -70,3 +72,20 @@ returns-clause-made c = λ rest.
     subst Q (c.in_ok-push_node.ensures.made (node_in c.first_key.result None (row_of (node_views mid) c.in_ok-back.back.items) rest)
     ∙ parted_two seen c.args.made.now.items f c.args.level key row h (row_of seen c.in_ok-front.front.items) (row_of (node_views mid) c.in_ok-back.back.items) c.first_key.result rest front kept first)
     (c.push_node-3.ensures.made rest)
+
+pub returns-then-links-self-clause-stands : goal.returns-then-links-self-clause-stands
+returns-then-links-self-clause-stands g c = λ own below.
+    let P : List Link → Type 0 = λ v. AreStandingLinks (g.V.Volume.state c.args.volume.now) c.args.self.now.nodes.items v in
+    c.push_node.ensures.stands own (subst P (sym c.in_ok-whole.ensures) below)
+
+pub returns-clause-stands : goal.returns-clause-stands
+returns-clause-stands g c = λ own below.
+    let s = g.V.Volume.state c.args.volume.now in
+    let old = c.args.self.now.nodes.items in
+    let mid = c.push_node-2.new.self.nodes.items in
+    let links = c.args.links.now in
+    let half = left_half c.args.self.now.fanout in
+    let P : List Link → Type 0 = λ v. AreStandingLinks s old v in
+    let front = subst P (sym (c.in_ok-front.ensures ∙ c.split_at.ensures.front)) (standing_taken s old half links below) in
+    let back = subst P (sym (c.in_ok-back.ensures ∙ c.split_at.ensures.back)) (standing_dropped s old half links below) in
+    c.push_node-3.ensures.stands (c.in_ok-push_node.ensures.stands own front) (standing_added s old mid c.in_ok-back.back.items c.in_ok-push_node.ensures.added back)

@@ -3,16 +3,14 @@ use Rattle.index_media.specs.KeyedRemoval.{replaced_by_keys}
 use Rattle.index_media.specs.KeyedRow.{no_more}
 use Rattle.table_nodes.specs.NodeView.{tree_at, IsRootIn}
 use Rattle.node_table.specs.Staging.{only_root, IsSoundRoot}
+use Rattle.node_table.specs.Unloaded.{DoesRootStand}
 use Rattle.table_nodes.specs.declared.node.Root.{Root}
 use Rattle.node_table.proofs.Inserted.{tree_kept, sound_kept}
-use Rattle.node_table.proofs.Removed.{replaced_none, left_row, replaced_left, option_linked, sound_by}
+use Rattle.node_table.proofs.Removed.{option_stands, replaced_none, left_row, replaced_left, option_linked, root_stands_on, sound_by}
 use Rattle.node_table.proofs.table.NodeTable.replace.Goals as goal
 
-pub returns-in_err-exchange_below-in-Some-clause-kept : goal.returns-in_err-exchange_below-in-Some-clause-kept
-returns-in_err-exchange_below-in-Some-clause-kept c = λ other h. tree_kept c.args.self.now.nodes.items c.exchange_below.new.self.nodes.items other c.exchange_below.ensures.added h
-
 pub returns-then-not-branch-clause-made : goal.returns-then-not-branch-clause-made
-returns-then-not-branch-clause-made c =
+returns-then-not-branch-clause-made g c =
     let old = c.args.self.now.nodes.items in
     let now = c.exchange_below.new.self.nodes.items in
     let top = c.in-Some.top in
@@ -24,16 +22,22 @@ returns-then-not-branch-clause-made c =
     ∙ replaced_none old top leaf c.args.new (sym c.in_ok-exchange_below-in-Some.ensures.found ∙ c.if-not-branch.true))
 
 pub returns-then-not-branch-clause-root : goal.returns-then-not-branch-clause-root
-returns-then-not-branch-clause-root c =
+returns-then-not-branch-clause-root g c =
     let old = c.args.self.now.nodes.items in
     let R : Option Root → Type 0 = λ r. IsSoundRoot old r in
     sound_kept old c.exchange_below.new.self.nodes.items (Some c.in-Some.top) c.exchange_below.ensures.added (subst R c.in-Some.is c.requires.root)
 
-pub returns-then-not-branch-clause-kept : goal.returns-then-not-branch-clause-kept
-returns-then-not-branch-clause-kept c = λ other h. tree_kept c.args.self.now.nodes.items c.exchange_below.new.self.nodes.items other c.exchange_below.ensures.added h
+pub returns-then-not-branch-clause-stands : goal.returns-then-not-branch-clause-stands
+returns-then-not-branch-clause-stands g c =
+    let a = g.V.Volume.state c.args.volume.now in
+    let b = g.V.Volume.state c.exchange_below.new.volume in
+    let old = c.args.self.now.nodes.items in
+    let reads = c.exchange_below.ensures.reads in
+    let P : Option Root → Type 0 = λ r. DoesRootStand b c.exchange_below.new.self.nodes.items r in
+    subst P c.in-Some.is (root_stands_on a b old c.exchange_below.new.self.nodes.items c.args.root reads.keeps reads.shape c.exchange_below.ensures.added c.requires.root.there c.requires.stands)
 
 pub returns-else-not-branch-clause-made : goal.returns-else-not-branch-clause-made
-returns-else-not-branch-clause-made c =
+returns-else-not-branch-clause-made g c =
     let old = c.args.self.now.nodes.items in
     let now = c.exchange_below.new.self.nodes.items in
     let top = c.in-Some.top in
@@ -46,7 +50,7 @@ returns-else-not-branch-clause-made c =
     subst T (sym c.in-Some.is) (replaced_left old now top c.only_node.result leaf c.args.new made held row only)
 
 pub returns-else-not-branch-clause-root : goal.returns-else-not-branch-clause-root
-returns-else-not-branch-clause-root c =
+returns-else-not-branch-clause-root g c =
     let old = c.args.self.now.nodes.items in
     let now = c.exchange_below.new.self.nodes.items in
     let top = c.in-Some.top in
@@ -58,9 +62,12 @@ returns-else-not-branch-clause-root c =
     let only = ap only_root (sym c.as_slice.ensures.value) ∙ sym c.only_node.ensures in
     let T : Option Root → Type 0 = λ r. tree_at now c.only_node.result ≡ replaced_by_keys leaf c.args.new (tree_at old r) in
     let is = subst T (sym c.in-Some.is) (replaced_left old now top c.only_node.result leaf c.args.new made held row only) in
-    sound_by now c.only_node.result (replaced_by_keys leaf c.args.new tree) (option_linked now made c.only_node.result c.in_ok-exchange_below-in-Some.ensures.there only) is
+    sound_by now c.only_node.result (replaced_by_keys leaf c.args.new tree) (option_linked now made c.only_node.result c.in_ok-exchange_below-in-Some.ensures.there.there only) is
     (c.a_replacement_leaves_the_keys_of_branches.ensures.keys leaf c.args.new 0 None tree c.requires.key.0 c.requires.root.bounded)
     (c.a_replacement_keeps_what_nodes_are.ensures.keys leaf c.args.new tree c.requires.key.1 c.requires.root.keys)
 
-pub returns-else-not-branch-clause-kept : goal.returns-else-not-branch-clause-kept
-returns-else-not-branch-clause-kept c = λ other h. tree_kept c.args.self.now.nodes.items c.exchange_below.new.self.nodes.items other c.exchange_below.ensures.added h
+pub returns-else-not-branch-clause-stands : goal.returns-else-not-branch-clause-stands
+returns-else-not-branch-clause-stands g c =
+    let b = g.V.Volume.state c.exchange_below.new.volume in
+    let only = ap only_root (sym c.as_slice.ensures.value) ∙ sym c.only_node.ensures in
+    option_stands b c.exchange_below.new.self.nodes.items c.exchange_below.new.made.items c.only_node.result c.in_ok-exchange_below-in-Some.ensures.there.stand only

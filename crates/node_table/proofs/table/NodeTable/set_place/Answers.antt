@@ -1,17 +1,17 @@
 use Rattle.std.proofs.Common.{ℕ, List, ap, sym, ◌∙◌, subst}
 use Rattle.std.specs.Prelude.{slice_get}
-use Rattle.table_nodes.specs.Beyond.{are_loaded}
 use Rattle.table_nodes.specs.Clean.{are_clean_below}
 use Rattle.node_table.specs.Dirty.{dirty_below, dirty_lists}
 use Rattle.node_table.specs.Placing.{IsPlacedRow}
 use Rattle.table_nodes.specs.NodeView.{node_views, children_in, tree_at}
 use Rattle.table_nodes.specs.Sound.{AreSoundViews}
+use Rattle.table_nodes.specs.Stubs.{unplaced}
 use Rattle.node_table.specs.Staging.{IsSoundRoot}
 use Rattle.node_table.specs.Bounds.{AreNoLonger}
 use Rattle.node_table.specs.Unloaded.{are_loaded_if_dirty}
 use Rattle.table_nodes.specs.declared.node.TableNode.{TableNode}
 use Rattle.node_table.proofs.Bounded.{few_without}
-use Rattle.node_table.proofs.GivenPlaces.{with_loaded, with_loaded_if_dirty}
+use Rattle.node_table.proofs.GivenPlaces.{with_loaded_if_dirty}
 use Rattle.node_table.proofs.PlacedTable.{table_placed}
 use Rattle.node_table.proofs.table.NodeTable.set_place.Goals as goal
 
@@ -30,8 +30,10 @@ invariant_of-self-clause-dirty c =
     let s = c.args.self.now in
     ap are_loaded_if_dirty c.put_place.ensures ∙ with_loaded_if_dirty c.args.number c.args.place s.nodes.items s.dirty
 
-pub returns-clause-loaded : goal.returns-clause-loaded
-returns-clause-loaded c = λ loaded. ap are_loaded c.put_place.ensures ∙ with_loaded c.args.number c.args.place c.args.self.now.nodes.items ∙ loaded
+pub returns-clause-unplaced : goal.returns-clause-unplaced
+returns-clause-unplaced c =
+    let s = c.args.self.now in
+    ap unplaced c.put_place.ensures ∙ (table_placed s.fanout s.nodes.items c.args.number c.args.place s.sound s.clean s.dirty c.requires.ready).unplaced
 
 pub invariant_of-self-clause-few : goal.invariant_of-self-clause-few
 invariant_of-self-clause-few c =

@@ -7,7 +7,7 @@ use Rattle.node_table.proofs.Counted.{taken_back}
 use Rattle.node_table.proofs.table.NodeTable.stage.Goals as goal
 
 pub invariant_of-self-clause-few : goal.invariant_of-self-clause-few
-invariant_of-self-clause-few c =
+invariant_of-self-clause-few g c =
     let old = c.args.self.now.nodes.items in
     let now = c.stage_all.new.self in
     let added = c.stage_all.ensures.added in
@@ -17,7 +17,7 @@ invariant_of-self-clause-few c =
     (c.truncate_both.ensures.nodes ∙ taken_back old now.nodes.items c.len-number.result added number) now.few c.truncate_both.ensures.most_dirty
 
 pub invariant_of-self-clause-clean : goal.invariant_of-self-clause-clean
-invariant_of-self-clause-clean c =
+invariant_of-self-clause-clean g c =
     let old = c.args.self.now.nodes.items in
     let same = c.len-number.ensures in
     let number : c.len-number.result ≡ length old = omega (arith, same) in
@@ -25,7 +25,7 @@ invariant_of-self-clause-clean c =
     ∙ c.args.self.now.clean
 
 pub invariant_of-self-clause-dirty : goal.invariant_of-self-clause-dirty
-invariant_of-self-clause-dirty c =
+invariant_of-self-clause-dirty g c =
     let old = c.args.self.now.nodes.items in
     let same = c.len-number.ensures in
     let number : c.len-number.result ≡ length old = omega (arith, same) in

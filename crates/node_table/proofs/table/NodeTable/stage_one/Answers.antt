@@ -14,7 +14,7 @@ use Rattle.node_table.proofs.Rooted.{ok_to}
 use Rattle.node_table.proofs.table.NodeTable.stage_one.Goals as goal
 
 pub returns-in-Remove-clause-leaves : goal.returns-in-Remove-clause-leaves
-returns-in-Remove-clause-leaves c =
+returns-in-Remove-clause-leaves g c =
     let old = c.args.self.now.nodes.items in
     let now = c.remove.new.self.nodes.items in
     let leaf = c.in-Remove.leaf in
@@ -26,7 +26,7 @@ returns-in-Remove-clause-leaves c =
     subst C (sym c.in-Remove.is) (ok_to P Q (λ made e. ap (λ (r : KeyedRow). contents (bare r)) e ∙ left) c.remove.result c.remove.ensures.made)
 
 pub returns-in_ok-left-in-RemoveRange-clause-leaves : goal.returns-in_ok-left-in-RemoveRange-clause-leaves
-returns-in_ok-left-in-RemoveRange-clause-leaves c =
+returns-in_ok-left-in-RemoveRange-clause-leaves g c =
     let old = c.args.self.now.nodes.items in
     let now = c.remove_range.new.self.nodes.items in
     let from = key_rank c.in-RemoveRange.from in
