@@ -1,5 +1,3 @@
-pub mod Placed
-pub mod Links
 pub mod Roots
 pub mod Written
 pub mod DirtyCounted

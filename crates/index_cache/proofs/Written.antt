@@ -1,13 +1,12 @@
 -- A node of a table as an index node of the medium.
 use Rattle.std.proofs.Common.{◌≡◌, ℕ, ◌+◌, ◌-◌, ◌≤◌, true, List, [], ◌∷◌, length, refl, ap, sym, ◌∙◌, subst, arith, inl, inr}
-use Rattle.std.specs.Prelude.{Bool, nat_lt, Option, None, Some, Result, Ok, Err, IfOk, IsTrue, map, slice_get}
+use Rattle.std.specs.Prelude.{nat_lt, Option, None, Some, IsTrue, map, slice_get}
 use Rattle.std.specs.List.{AllByRecursion}
 use Rattle.std.proofs.lemmas.Bool.{lt-ltb}
 use Rattle.std.proofs.lemmas.List.Elements.{All-get_or}
 use Rattle.std.proofs.lemmas.Option.{slice_get_cases}
 use Rattle.ubifs_base.specs.Key.{IsKey}
 use Rattle.ubifs_base.specs.declared.key.Key.{Key}
-use Rattle.ubifs_base.specs.declared.memory.Memory.{Memory}
 use Rattle.index_tree.specs.Levels.{levelled}
 use Rattle.index_tree.specs.Shape.{Shape, count, leaf, node, done, is_whole}
 use Rattle.index_media.specs.Clean.{node_branch, placed_of}
@@ -132,7 +131,3 @@ pub plain_placed : (row : KeyedRow) → plain (placed_of row) ≡ bare row
 plain_placed no_more = refl
 plain_placed (leaf_in x rest) = ap (leaf x) (plain_placed rest)
 plain_placed (node_in key place children rest) = rw (plain_placed children, plain_placed rest) refl
-
-pub ok_then : {P : Type 0} (r : Result Bool Memory) → P → IfOk r (λ done. IsTrue done → P)
-ok_then (Ok it) p = λ yes. p
-ok_then (Err e) p = tt

@@ -17,6 +17,7 @@ ghost use Rattle.node_table.specs.Changing.{IsChange, AreChanges, changed_row, c
 ghost use Rattle.node_table.specs.Exchange.{tree_without};
 ghost use Rattle.table_nodes.specs.NodeView.{tree_at, leaves_at};
 ghost use Rattle.node_table.specs.Staging.{IsSoundRoot};
+ghost use Rattle.node_table.specs.Unloaded.{DoesRootStand};
 ghost use Rattle.ubifs_base.specs.Key.{IsKey};
 ghost use Rattle.index_cache.specs.Paged.{keyed_tree_of, leaves_of, frozen_of, fanout_of, DoesIndexStand, KeepsNodes};
 
@@ -28,7 +29,7 @@ use node_table::{Change, NodeTable, TreeCounts, roots_stay};
 use std::alloc::Global;
 use table_nodes::Root;
 use ubi_volume::{AreaFault, Volume};
-use ubifs_base::{Key, Memory};
+use ubifs_base::Key;
 
 /// Changes that are made and not yet seen: the root that they make.
 #[derive(Clone, Copy, Debug, PartialEq, Eq)]
@@ -185,23 +186,33 @@ impl PagedIndex {
         self.table.size(alloc, volume, self.root)
     }
 
-    /// Puts the leaf after all leaves whose key isn't greater. Nodes on its way are dirty, and all others keep their places.
+    /// Puts the leaf after all leaves whose key isn't greater. Nodes on its way are dirty, and all others keep their places. One that isn't loaded
+    /// is read, unless it is kept. The volume is as it was.
     ///
-    /// After `Memory` the index is as before.
-    pub fn insert(&mut self, alloc: Global, leaf: Leaf) -> Result<(), Memory>
+    /// `Memory` and `Volume` are the faults, and the index is as before then. All of this holds of each change.
+    pub fn insert<V: Volume>(
+        &mut self,
+        alloc: Global,
+        volume: &mut V,
+        cache: &mut NodeCache,
+        leaf: Leaf,
+    ) -> Result<(), AreaFault>
         requires key { IsKey leaf.key }
+        requires stands { DoesIndexStand (V.state volume.old) self.old }
+        requires kept { AreKept (V.state volume.old).holds cache.old }
         ensures tree { OnOk result (keyed_tree_of self.new ≡ with_leaf_by_keys (fanout_of self.old) leaf (keyed_tree_of self.old)) }
         ensures leaves { OnOk result (leaves_of self.new ≡ placed leaf (leaves_of self.old)) }
         ensures err { OnErr result (keyed_tree_of self.new ≡ keyed_tree_of self.old) }
-        ensures kept { KeepsNodes self.old self.new }
+        ensures keeps { KeepsNodes self.old self.new }
+        ensures stands { DoesIndexStand (V.state volume.new) self.new }
+        ensures reads { IsReadOnlyCall (V.state volume.old) (V.state volume.new) result }
+        ensures kept { AreKept (V.state volume.new).holds cache.new }
     {
-        self.make(alloc, Change::Insert(leaf))
+        self.make(alloc, volume, cache, Change::Insert(leaf))
     }
 
     /// Takes the leaf out, with the nodes that this empties; false exactly where it isn't there. Nodes on its way are dirty,
     /// and all others keep their places. The leaf is looked up first.
-    ///
-    /// After `Memory` or `Volume` the index is as before.
     pub fn remove<V: Volume>(
         &mut self,
         alloc: Global,
@@ -215,19 +226,18 @@ impl PagedIndex {
         ensures tree { OnOk result (keyed_tree_of self.new ≡ tree_without leaf.now (keyed_tree_of self.old)) }
         ensures leaves { OnOk result (leaves_of self.new ≡ without leaf.now (leaves_of self.old)) }
         ensures err { OnErr result (keyed_tree_of self.new ≡ keyed_tree_of self.old) }
-        ensures nodes { KeepsNodes self.old self.new }
+        ensures keeps { KeepsNodes self.old self.new }
+        ensures stands { DoesIndexStand (V.state volume.new) self.new }
         ensures reads { IsReadOnlyCall (V.state volume.old) (V.state volume.new) result }
         ensures kept { AreKept (V.state volume.new).holds cache.new }
     {
         let found = self.holds(alloc, volume, cache, leaf)?;
-        self.make(alloc, Change::Remove(*leaf))?;
+        self.make(alloc, volume, cache, Change::Remove(*leaf))?;
         Ok(found)
     }
 
     /// Puts a leaf at the place of another of its key; false exactly where that one isn't there. Nodes on its way are dirty,
     /// and all others keep their places. The other one is looked up first.
-    ///
-    /// After `Memory` or `Volume` the index is as before.
     pub fn replace<V: Volume>(
         &mut self,
         alloc: Global,
@@ -243,7 +253,8 @@ impl PagedIndex {
         ensures tree { OnOk result (keyed_tree_of self.new ≡ replaced_by_keys old.now new (keyed_tree_of self.old)) }
         ensures leaves { OnOk result (leaves_of self.new ≡ swapped old.now new (leaves_of self.old)) }
         ensures err { OnErr result (keyed_tree_of self.new ≡ keyed_tree_of self.old) }
-        ensures nodes { KeepsNodes self.old self.new }
+        ensures keeps { KeepsNodes self.old self.new }
+        ensures stands { DoesIndexStand (V.state volume.new) self.new }
         ensures reads { IsReadOnlyCall (V.state volume.old) (V.state volume.new) result }
         ensures kept { AreKept (V.state volume.new).holds cache.new }
     {
@@ -252,56 +263,93 @@ impl PagedIndex {
             gone: *old,
             come: new,
         };
-        self.make(alloc, change)?;
+        self.make(alloc, volume, cache, change)?;
         Ok(found)
     }
 
     /// Takes out the leaves with keys from `from` to `to`, both included, with the nodes that this empties, and answers how
     /// many leaves went: `u64::MAX` stands for more as well. Nodes on the ways to them are dirty, and all others keep their
-    /// places. A root with one child gives way to it, even if no leaf went.
-    ///
-    /// After `Memory` the index is as before.
-    pub fn remove_range(&mut self, alloc: Global, from: &Key, to: &Key) -> Result<u64, Memory>
+    /// places. A root with one child gives way to it, even if no leaf went. The nodes of the whole range are read, to count.
+    pub fn remove_range<V: Volume>(
+        &mut self,
+        alloc: Global,
+        volume: &mut V,
+        cache: &mut NodeCache,
+        from: &Key,
+        to: &Key,
+    ) -> Result<u64, AreaFault>
+        requires stands { DoesIndexStand (V.state volume.old) self.old }
+        requires kept { AreKept (V.state volume.old).holds cache.old }
         ensures number { IfOk result (λ number. number ≡ min (length (within_range (key_rank from.now) (key_rank to.now) (leaves_of self.old))) (2 ^ 64 - 1)) }
         ensures tree { OnOk result (keyed_tree_of self.new ≡ without_range_by_keys (key_rank from.now) (key_rank to.now) (keyed_tree_of self.old)) }
         ensures leaves { OnOk result (leaves_of self.new ≡ outside_range (key_rank from.now) (key_rank to.now) (leaves_of self.old)) }
         ensures err { OnErr result (keyed_tree_of self.new ≡ keyed_tree_of self.old) }
-        ensures kept { KeepsNodes self.old self.new }
+        ensures keeps { KeepsNodes self.old self.new }
+        ensures stands { DoesIndexStand (V.state volume.new) self.new }
+        ensures reads { IsReadOnlyCall (V.state volume.old) (V.state volume.new) result }
+        ensures kept { AreKept (V.state volume.new).holds cache.new }
     {
         roots_stay();
         a_range_removal_leaves_the_keys_of_branches();
-        let left = self.table.remove_range(alloc, self.root, from, to)?;
+        let left = self
+            .table
+            .remove_range(alloc, volume, cache, self.root, from, to)?;
         self.root = left.root;
         Ok(left.number)
     }
 
-    /// Makes changes beside the index, each over what the ones before it make. The index is as before until they are adopted.
+    /// Makes changes beside the index, each over what the ones before it make. The index is as before until they are adopted. What isn't loaded
+    /// below the root that they make stands too, so they may be adopted later.
     ///
-    /// After `Memory` the table of nodes is as before too.
-    pub fn stage(&mut self, alloc: Global, changes: &[Change]) -> Result<Staged, Memory>
+    /// After a fault the table of nodes is as before too.
+    pub fn stage<V: Volume>(
+        &mut self,
+        alloc: Global,
+        volume: &mut V,
+        cache: &mut NodeCache,
+        changes: &[Change],
+    ) -> Result<Staged, AreaFault>
         requires changes { AreChanges changes.now }
+        requires stands { DoesIndexStand (V.state volume.old) self.old }
+        requires kept { AreKept (V.state volume.old).holds cache.old }
         ensures made { IfOk result (λ staged. tree_at self.new.table.nodes.items staged.root ≡ changed_by (fanout_of self.old) changes.now (keyed_tree_of self.old)) }
         ensures leaves { IfOk result (λ staged. leaves_at self.new.table.nodes.items staged.root ≡ leaves_after_all changes.now (leaves_of self.old)) }
         ensures root { IfOk result (λ staged. IsSoundRoot self.new.table.nodes.items staged.root) }
+        ensures staged { IfOk result (λ staged. DoesRootStand (V.state volume.new) self.new.table.nodes.items staged.root) }
         ensures tree { keyed_tree_of self.new ≡ keyed_tree_of self.old }
-        ensures kept { KeepsNodes self.old self.new }
+        ensures seen { self.new.root ≡ self.old.root }
+        ensures keeps { KeepsNodes self.old self.new }
         ensures err { OnErr result (self.new.table.nodes.items ≡ self.old.table.nodes.items) }
+        ensures stands { DoesIndexStand (V.state volume.new) self.new }
+        ensures reads { IsReadOnlyCall (V.state volume.old) (V.state volume.new) result }
+        ensures kept { AreKept (V.state volume.new).holds cache.new }
     {
         roots_stay();
-        let root = self.table.stage(alloc, self.root, changes)?;
+        let root = self.table.stage(alloc, volume, cache, self.root, changes)?;
         Ok(Staged { root })
     }
 
     // Makes one change.
-    fn make(&mut self, alloc: Global, change: Change) -> Result<(), Memory>
+    fn make<V: Volume>(
+        &mut self,
+        alloc: Global,
+        volume: &mut V,
+        cache: &mut NodeCache,
+        change: Change,
+    ) -> Result<(), AreaFault>
         requires change { IsChange change }
+        requires stands { DoesIndexStand (V.state volume.old) self.old }
+        requires kept { AreKept (V.state volume.old).holds cache.old }
         ensures tree { OnOk result (keyed_tree_of self.new ≡ changed_row (fanout_of self.old) change (keyed_tree_of self.old)) }
         ensures leaves { OnOk result (leaves_of self.new ≡ leaves_after_change change (leaves_of self.old)) }
         ensures err { OnErr result (keyed_tree_of self.new ≡ keyed_tree_of self.old) }
-        ensures kept { KeepsNodes self.old self.new }
+        ensures keeps { KeepsNodes self.old self.new }
+        ensures stands { DoesIndexStand (V.state volume.new) self.new }
+        ensures reads { IsReadOnlyCall (V.state volume.old) (V.state volume.new) result }
+        ensures kept { AreKept (V.state volume.new).holds cache.new }
     {
         let changes: &[Change] = &[change];
-        let staged = self.stage(alloc, changes)?;
+        let staged = self.stage(alloc, volume, cache, changes)?;
         self.adopt(staged);
         Ok(())
     }
@@ -314,7 +362,7 @@ impl PagedIndex {
         ensures fanout { fanout_of self.new ≡ fanout_of self.old }
         ensures root { self.new.root ≡ staged.root }
         ensures frozen { self.new.frozen ≡ self.old.frozen }
-        ensures kept { KeepsNodes self.old self.new }
+        ensures keeps { KeepsNodes self.old self.new }
     {
         self.root = staged.root;
     }

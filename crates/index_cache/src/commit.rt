@@ -9,6 +9,8 @@ ghost use Rattle.index_tree.specs.Shape.{fits, is_whole};
 ghost use Rattle.media_sys.specs.Index.{in_order};
 ghost use Rattle.media_sys.specs.SystemNode.{IsSystemNode, index, written};
 ghost use Rattle.table_nodes.specs.NodeView.{tree_at};
+ghost use Rattle.table_nodes.specs.Stubs.{unplaced};
+ghost use Rattle.node_table.specs.Clean.{IsReadyNode};
 ghost use Rattle.node_table.specs.Placing.{with_place, IsPlacedRow, without_number};
 ghost use Rattle.node_table.specs.Staging.{IsSoundRoot};
 ghost use Rattle.table_nodes.specs.declared.node.Root.{Root as ARoot};
@@ -80,8 +82,9 @@ impl PagedIndex {
         }
     }
 
-    /// The length of a node on the medium; that of one without children where it isn't there.
+    /// The length of a dirty node on the medium; that of one without children where it isn't there.
     fn len_of(&self, node: u64) -> u32
+        requires ready { IsReadyNode self.now.table.nodes.items node }
         ensures { result ≡ node_length (said_of self.now node) }
     {
         match self.table.node_at(node) {
@@ -123,7 +126,8 @@ impl PagedIndex {
         ensures tree { IsPlacedRow (place_for lnum offs (said_of self.old node)) (below_node self.old node) (keyed_tree_of self.old) (keyed_tree_of self.new) }
         ensures trees { (root : Option ARoot) → IsPlacedRow (place_for lnum offs (said_of self.old node)) (below_node self.old node) (tree_at self.old.table.nodes.items root) (tree_at self.new.table.nodes.items root) }
         ensures dirty { dirty_of self.new ≡ without_number node (dirty_of self.old) }
-        ensures kept { KeepsRoots self.old self.new }
+        ensures keeps { KeepsRoots self.old self.new }
+        ensures unplaced { unplaced self.new.table.nodes.items ≡ unplaced self.old.table.nodes.items }
     {
         let len = self.len_of(node);
         self.table.set_place(node, NodePlace { lnum, offs, len });
