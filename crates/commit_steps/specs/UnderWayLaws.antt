@@ -13,6 +13,7 @@ use Rattle.index_media.specs.Stored.{IsIndexNodeAt, IsStoredIndex}
 use Rattle.media_sys.specs.Index.{Index}
 use Rattle.media_sys.specs.SystemNode.{IsSystemNode, index as index_node}
 use Rattle.media_sys.specs.declared.branch.Branch.{Branch}
+use Rattle.node_cache.specs.OnVolume.{IsOnVolume}
 use Rattle.table_nodes.specs.NodeView.{tree_at}
 use Rattle.node_table.specs.Placing.{KeepsPlaces}
 use Rattle.table_nodes.specs.declared.node.Root.{Root}
@@ -98,6 +99,10 @@ row_moved : (old new : ℕ → List ℕ) (P Q : Stretch → ℕ → ℕ → Type
 row_moved old new P Q no_more f h = tt
 row_moved old new P Q (leaf_in x rest) f h = row_moved old new P Q rest f h
 row_moved old new P Q (node_in key place children rest) f h = (own_moved old new P Q key place children f h.0, row_moved old new P Q children f h.1, row_moved old new P Q rest f h.2)
+
+-- nodes within LEBs of a volume stand on it
+pub within_there : (state : VolumeState) (lebs : List ℕ) (row : KeyedRow) → ((k : ℕ) → IsGiven lebs k → k < state.leb_cnt) → AreWithinLebs state.holds lebs row → IsOnVolume state row
+within_there state lebs row there h = row_moved state.holds state.holds (IsWithinLebs lebs) (λ place sqnum group. place.lnum < state.leb_cnt) row (λ s n g given. (refl, there s.lnum given)) h
 
 -- ---- nodes within some LEBs are outside of others
 pub outside_of : (contents : ℕ → List ℕ) (lebs others : List ℕ) (row : KeyedRow) → AreLebsApart lebs others → AreWithinLebs contents lebs row → AreOutside contents others row

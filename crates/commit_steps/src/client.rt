@@ -14,17 +14,18 @@ ghost use Rattle.node_table.specs.Placing.{KeepsPlaces};
 ghost use Rattle.ubi_volume.specs.Geometry.{IsGeometryOf};
 ghost use Rattle.ubi_volume.specs.Volume.{AreUnits, Leaves, Only, SameShape, filled};
 ghost use Rattle.node_cache.specs.Loaded.{IsIndexOn};
-ghost use Rattle.index_cache.specs.Paged.{dirty_of, fanout_of, frozen_of, leaves_of, keyed_tree_of};
+ghost use Rattle.index_cache.specs.Paged.{dirty_of, fanout_of, frozen_of, leaves_of, keyed_tree_of, DoesIndexStand};
 ghost use Rattle.index_commit.specs.Lebs.{AreLebsApart, AreGivable, IsGiven};
 ghost use Rattle.index_commit.specs.Written.{IsRootOf};
-ghost use Rattle.commit_steps.specs.UnderWay.{AreSettledLebs, IsCommitUnderWay, IsSeenWithin, WorksBeside};
+ghost use Rattle.commit_steps.specs.UnderWay.{AreSettledLebs, AreWithinLebs, IsCommitUnderWay, IsSeenWithin, WorksBeside};
 
 use index_cache::PagedIndex;
 use index_commit::{IndexFault, changes_keep_what_stands, committed_root, write_next_leb};
 use index_media::{an_index_depends_on_its_lebs_alone, an_insertion_goes_by_the_keys_of_branches};
 use index_tree::Leaf;
 use media_sys::Branch;
-use node_table::places_are_kept;
+use node_cache::NodeCache;
+use node_table::{Change, places_are_kept};
 use std::alloc::Global;
 use ubi_volume::Volume;
 use ubifs_base::Geometry;
@@ -32,7 +33,7 @@ use ubifs_base::Geometry;
 // More dirty nodes than this don't fit into memory.
 const MOST_NODES: u64 = 1 << 62;
 
-// Puts a leaf, and writes its node.
+// Puts a leaf, and writes its node: the put is staged before the node is written, and adopted then, so it can't fail behind it.
 fn put_leaf<V: Volume>(
     alloc: Global,
     volume: &mut V,
@@ -47,6 +48,8 @@ fn put_leaf<V: Volume>(
     requires units { AreUnits (V.state volume.old).min_io 0 (length node.now) }
     requires key { IsKey leaf.key }
     requires number { sqnum.old < 2 ^ 64 - 1 }
+    requires stands { DoesIndexStand (V.state volume.old) index.old }
+    ensures stands { (lebs : List ℕ) → (IsGiven lebs bud → ⊥) → AreWithinLebs (V.state volume.old).holds lebs (keyed_tree_of index.old) → OnOk result (DoesIndexStand (V.state volume.new) index.new) }
     ensures kept { (kept given : List ℕ) → (IsGiven (given ++ kept) bud → ⊥) → IsCommitUnderWay (V.state volume.old) kept given index.old
         → OnOk result (IsCommitUnderWay (V.state volume.new) kept given index.new) }
     ensures seen { (lebs : List ℕ) → (IsGiven lebs bud → ⊥) → IsSeenWithin (V.state volume.old) lebs index.old → OnOk result (IsSeenWithin (V.state volume.new) lebs index.new) }
@@ -59,9 +62,12 @@ fn put_leaf<V: Volume>(
 {
     changes_keep_what_stands();
     index.trees_are_sound();
+    let mut cache = NodeCache::new(alloc)?;
+    let changes: &[Change] = &[Change::Insert(leaf)];
+    let staged = index.stage(alloc, volume, &mut cache, changes)?;
     volume.change(bud, node)?;
     *sqnum += 1;
-    index.insert(alloc, leaf)?;
+    index.adopt(staged);
     Ok(())
 }
 
@@ -84,9 +90,12 @@ fn take_steps<V: Volume>(
     requires units { AreUnits (V.state volume.old).min_io 0 (length node.now) }
     requires key { IsKey leaf.key }
     requires number { sqnum.old + length (dirty_of index.old) + length lebs.now < 2 ^ 64 - 1 }
+    requires stands { DoesIndexStand (V.state volume.old) index.old }
+    requires way { (kept : List ℕ) × (given : List ℕ) × AreLebsApart (given ++ kept) (bud ∷ lebs.now) × IsCommitUnderWay (V.state volume.old) kept given index.old }
     ensures done { (kept given : List ℕ) → AreLebsApart (given ++ kept) (bud ∷ lebs.now) → IsCommitUnderWay (V.state volume.old) kept given index.old
         → OnOk result ((now : List ℕ) × All (IsGiven (lebs.now ++ given)) now × IsCommitUnderWay (V.state volume.new) kept now index.new) }
     ensures none { OnOk result (dirty_of index.new ≡ []) }
+    ensures stands { OnOk result (DoesIndexStand (V.state volume.new) index.new) }
     ensures written { (V.state volume.old).holds bud ≡ filled (V.state volume.old).leb_size node.now
         → OnOk result ((V.state volume.new).holds bud ≡ filled (V.state volume.old).leb_size node.now) }
     ensures beside { (others : List ℕ) → AreLebsApart others (bud ∷ lebs.now) → WorksBeside (V.state volume.old) (V.state volume.new) others }
@@ -125,11 +134,12 @@ pub fn commit_beside_puts<V: Volume>(
     requires node { (length node.now ≤ (V.state volume.old).leb_size) × AreUnits (V.state volume.old).min_io 0 (length node.now) }
     requires key { IsKey leaf.key }
     requires number { sqnum.old + length lebs.now < 2 ^ 63 }
+    requires seen { (kept : List ℕ) × AreLebsApart kept (bud ∷ lebs.now) × IsSeenWithin (V.state volume.old) kept index.old × DoesIndexStand (V.state volume.old) index.old }
     ensures stands { (kept : List ℕ) → AreLebsApart kept (bud ∷ lebs.now) → IsSeenWithin (V.state volume.old) kept index.old
         → IfOk result (λ root. IsRootOf (V.state volume.new).holds geometry.now.fanout (frozen_of index.new) root
         × All (λ k. Only ((V.state volume.new).holds k) ((V.state volume.new).left_now k)) (lebs_of (placed_of (frozen_of index.new)))) }
     ensures next { (kept : List ℕ) → AreLebsApart kept (bud ∷ lebs.now) → IsSeenWithin (V.state volume.old) kept index.old
-        → OnOk result ((given : List ℕ) × All (IsGiven lebs.now) given × IsSeenWithin (V.state volume.new) (given ++ lebs_of (placed_of (frozen_of index.new))) index.new) }
+        → OnOk result ((given : List ℕ) × All (IsGiven lebs.now) given × IsSeenWithin (V.state volume.new) (given ++ lebs_of (placed_of (frozen_of index.new))) index.new × DoesIndexStand (V.state volume.new) index.new) }
     ensures frozen { OnOk result (KeepsPlaces (keyed_tree_of index.old) (frozen_of index.new)) }
     ensures written { (V.state volume.old).holds bud ≡ filled (V.state volume.old).leb_size node.now
         → OnOk result ((V.state volume.new).holds bud ≡ filled (V.state volume.old).leb_size node.now) }
@@ -161,7 +171,7 @@ pub fn load_and_commit<V: Volume>(
     sqnum: &mut u64,
 ) -> Result<Option<Branch>, IndexFault>
     requires geometry { IsGeometryOf (raw_of geometry.now) (V.state volume.old) }
-    requires index { (row : PlacedRow) × IsIndexOn (V.state volume.old) geometry.now.fanout root.now row }
+    requires index { (row : PlacedRow) × IsIndexOn (V.state volume.old) geometry.now.fanout root.now row × AreSettledLebs (V.state volume.old) (lebs_of row) × AreLebsApart (lebs_of row) (bud ∷ lebs.now) }
     requires lebs { AreGivable (V.state volume.old).leb_cnt (bud ∷ lebs.now) }
     requires node { (length node.now ≤ (V.state volume.old).leb_size) × AreUnits (V.state volume.old).min_io 0 (length node.now) }
     requires key { IsKey leaf.key }

@@ -1,5 +1,5 @@
 -- What holds of clean nodes still does after a change, and what stands on a volume is loaded so.
-use Rattle.std.proofs.Common.{◌≡◌, ℕ, ◌+◌, ◌-◌, true, List, [], ◌∷◌, ◌++◌, length, refl, ap, sym, subst, arith, inl, inr, map}
+use Rattle.std.proofs.Common.{◌≡◌, ℕ, ◌+◌, ◌-◌, true, List, [], ◌∷◌, ◌++◌, length, refl, sym, subst, arith, inl, inr, map}
 use Rattle.std.specs.Prelude.{◌==◌, nat_le, nat_lt, Option, None, All}
 use Rattle.std.proofs.lemmas.Bool.{and_from, cases_Bool, eq-eqb, lt-ltb}
 use Rattle.std.proofs.lemmas.Bool.Decides.{nat_tests}
@@ -11,7 +11,6 @@ use Rattle.index_tree.specs.RangeRemoval.{in_range, within_range}
 use Rattle.index_tree.specs.Removal.{holds, same_leaf}
 use Rattle.index_tree.specs.Shape.{Shape, contents, count, fits, left_half, lone}
 use Rattle.index_tree.specs.declared.leaf.Leaf.{Leaf}
-use Rattle.index_media.specs.Clean.{is_clean_row, placed_of}
 use Rattle.index_media.specs.Insertion.{inserted_by_keys, keyed_back, keyed_front, keyed_parted, lowered, starts_by, with_leaf_by_keys}
 use Rattle.index_media.specs.InsertionLaws.{clean_bare}
 use Rattle.index_media.specs.InsertionSound.{fit_node}

@@ -1,5 +1,5 @@
 -- An index that is written whole stands.
-use Rattle.std.proofs.Common.{◌≡◌, ◌≤◌, ◌<◌, ◌*◌, ◌/◌, ◌%◌, ◌+◌, ℕ, true, List, [], refl, ap, sym, ◌∙◌, subst, arith, ◌∷◌, ◌++◌, map}
+use Rattle.std.proofs.Common.{◌≡◌, ◌≤◌, ◌<◌, ◌*◌, ◌/◌, ◌%◌, ◌+◌, ℕ, true, List, [], ap, sym, ◌∙◌, subst, arith, ◌∷◌, ◌++◌, map}
 use Rattle.std.specs.Prelude.{Option, None, Some, All, min, slice_get}
 use Rattle.std.proofs.Math.Nat.{le-div_iff_mul-le, mul_comm, mul-le-mul_left}
 use Rattle.std.proofs.lemmas.Grind.{div_ceil_times}
@@ -13,7 +13,7 @@ use Rattle.index_tree.specs.Shape.{fits, is_whole}
 use Rattle.index_media.specs.Clean.{is_clean_row, placed_of}
 use Rattle.index_media.specs.KeyedKeys.{AreKeysBounded}
 use Rattle.index_media.specs.KeyedRow.{KeyedRow, no_more, leaf_in, node_in, all_clean, bare}
-use Rattle.index_media.specs.PlacedRow.{PlacedRow, ended, leaf_at, node_at, all_nodes, branches_of}
+use Rattle.index_media.specs.PlacedRow.{all_nodes, branches_of}
 use Rattle.index_media.specs.Standing.{AreStandingAs}
 use Rattle.media_sys.specs.declared.branch.Branch.{Branch}
 use Rattle.table_nodes.specs.NodeView.{tree_at}

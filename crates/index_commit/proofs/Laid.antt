@@ -17,6 +17,7 @@ use Rattle.media_sys.specs.Index.{Index}
 use Rattle.table_nodes.specs.NodeView.{stretch_at, tree_at}
 use Rattle.node_table.specs.Placing.{IsPlacedRow, KeepsPlaces, with_place, without_number}
 use Rattle.table_nodes.specs.declared.node.NodePlace.{NodePlace}
+use Rattle.table_nodes.specs.Stubs.{unplaced}
 use Rattle.table_nodes.specs.declared.node.Root.{Root}
 use Rattle.index_cache.specs.Commit.{IsNextNode, below_node, node_length, place_for, said_of}
 use Rattle.index_cache.specs.Paged.{dirty_of, frozen_of, keyed_tree_of, KeepsRoots}
@@ -25,7 +26,7 @@ use Rattle.index_commit.specs.Rooms.{IsInRoom, Room, room_in}
 use Rattle.index_commit.specs.Written.{AreFirstsTaken, IsIndexKept, IsIndexTaken, AreNodesLaid, Laying, Meets, with_leb_bytes}
 use Rattle.index_commit.specs.LebTexts.{in_room}
 use Rattle.index_commit.proofs.LebTexts.{both_texts, firsts_taken, one_text}
-use Rattle.index_commit.proofs.Rooms.{clean_kept, level_stays, links_stay, node_kept, none_there, not_behind, not_front, other_places, place_given, rooms_both, said_stays, taken_distinct, taken_then}
+use Rattle.index_commit.proofs.Rooms.{clean_kept, level_stays, node_kept, none_there, not_behind, not_front, other_places, place_given, rooms_both, said_stays, taken_distinct, taken_then}
 use Rattle.index_commit.proofs.Standing.{Grows, row_placed}
 
 -- ---- the laws of the table on places
@@ -61,7 +62,7 @@ roots_then a b c h k = record {
 pub kept_then : BothAreKept → (a b c : PagedIndex) → IsIndexKept a b → IsIndexKept b c → IsIndexKept a c
 kept_then both a b c h k = record {
   levels = λ number. k.levels number ∙ h.levels number;
-  links = k.links ∙ h.links;
+  unplaced = k.unplaced ∙ h.unplaced;
   frozen = both (frozen_of a) (frozen_of b) (frozen_of c) h.frozen k.frozen;
   tree = both (keyed_tree_of a) (keyed_tree_of b) (keyed_tree_of c) h.tree k.tree;
   trees = λ root. both (tree_at a.table.nodes.items root) (tree_at b.table.nodes.items root) (tree_at c.table.nodes.items root) (h.trees root) (k.trees root);
@@ -109,7 +110,7 @@ index_then both r r1 r2 a b c i j k h g front back =
 pub kept_none : NoneIsKept → (a : PagedIndex) → IsIndexKept a a
 kept_none none a = record {
   levels = λ number. refl;
-  links = refl;
+  unplaced = refl;
   frozen = none (frozen_of a);
   tree = none (keyed_tree_of a);
   trees = λ root. none (tree_at a.table.nodes.items root);
@@ -191,6 +192,7 @@ pub record IsPlaced (lnum offs node : ℕ) (old new : PagedIndex) : Type 0 where
   pub trees : (root : Option Root) → IsPlacedRow (place_for lnum offs (said_of old node)) (below_node old node) (tree_at old.table.nodes.items root) (tree_at new.table.nodes.items root)
   pub nodes : new.table.nodes.items ≡ with_place node (place_for lnum offs (said_of old node)) old.table.nodes.items
   pub dirty : dirty_of new ≡ without_number node (dirty_of old)
+  pub unplaced : unplaced new.table.nodes.items ≡ unplaced old.table.nodes.items
   pub roots : KeepsRoots old new
 
 -- and of the bytes
@@ -233,7 +235,7 @@ placed_kept given lnum offs node old new p =
     let below = below_node old node in
     record {
       levels = λ number. level_stays node number place old.table.nodes.items new.table.nodes.items p.nodes;
-      links = links_stay node place old.table.nodes.items new.table.nodes.items p.nodes;
+      unplaced = p.unplaced;
       frozen = given place below (frozen_of old) (frozen_of new) p.frozen;
       tree = given place below (keyed_tree_of old) (keyed_tree_of new) p.tree;
       trees = λ root. given place below (tree_at old.table.nodes.items root) (tree_at new.table.nodes.items root) (p.trees root);

@@ -15,14 +15,13 @@ use Rattle.media_sys.specs.Index.{Index}
 use Rattle.table_nodes.specs.NodeView.{NodeView, children_in, node_before, stretch_at, tree_at, node_view_of, node_views, views_behind}
 use Rattle.node_table.specs.Placing.{KeepsPlaces, with_place, without_number}
 use Rattle.node_table.specs.Pruning.{stretch_in}
-use Rattle.table_nodes.specs.declared.link.Link.{Link}
 use Rattle.table_nodes.specs.declared.node.NodePlace.{NodePlace}
 use Rattle.table_nodes.specs.declared.node.Root.{Root}
 use Rattle.table_nodes.specs.declared.node.TableNode.{TableNode}
 use Rattle.index_cache.specs.Commit.{below_node, level_in, node_length, said_of}
 use Rattle.index_cache.specs.declared.paged.PagedIndex.{PagedIndex}
 use Rattle.index_commit.specs.Rooms.{Room, AreDistinctNumbers, AreInRooms, IsInRoom, IsNotAmong, place_by_number}
-use Rattle.index_commit.specs.Written.{AreFirstsTaken, IsIndexKept, node_links}
+use Rattle.index_commit.specs.Written.{AreFirstsTaken, IsIndexKept}
 use Rattle.node_cache.specs.CleanRows.{clean_node}
 
 -- ---- what is seen of the nodes of a table
@@ -64,14 +63,6 @@ levels_with : (n : ℕ) (p : NodePlace) (nodes : List TableNode) → map level_k
 levels_with n p [] = refl
 levels_with zero p (node ∷ nodes) = refl
 levels_with (suc n) p (node ∷ nodes) = ap (λ (l : List ℕ). node.level ∷ l) (levels_with n p nodes)
-
-links_with : (n : ℕ) (p : NodePlace) (nodes : List TableNode) → map node_links (with_place n p nodes) ≡ map node_links nodes
-links_with n p [] = refl
-links_with zero p (node ∷ nodes) = refl
-links_with (suc n) p (node ∷ nodes) = ap (λ (l : List (List Link)). node_links node ∷ l) (links_with n p nodes)
-
-pub links_stay : (n : ℕ) (p : NodePlace) (old new : List TableNode) → new ≡ with_place n p old → map node_links new ≡ map node_links old
-links_stay n p old new e = ap (map node_links) e ∙ links_with n p old
 
 place_with : (n : ℕ) (p : NodePlace) (nodes : List TableNode) → n < length nodes → get_or (map place_kept (with_place n p nodes)) n None ≡ stretch_at (Some p)
 place_with n p [] there = absurd (omega (arith, there))

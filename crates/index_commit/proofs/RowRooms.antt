@@ -1,6 +1,6 @@
 -- Where the nodes of a row stand once all of its dirty nodes are written.
-use Rattle.std.proofs.Common.{◌≡◌, ℕ, zero, suc, ◌+◌, ◌<◌, true, List, [], ◌∷◌, ◌++◌, length, map, refl, ap, sym, ◌∙◌, subst, arith, inl, inr, append-nil, append_assoc, length-append}
-use Rattle.std.specs.Prelude.{◌⊎◌, ◌==◌, ◌||◌, All, Option, None, Some, is_none, option_map, slice_get, unwrap_or}
+use Rattle.std.proofs.Common.{◌≡◌, ℕ, zero, suc, ◌+◌, ◌<◌, true, false, List, [], ◌∷◌, ◌++◌, length, map, refl, ap, sym, ◌∙◌, subst, arith, inl, inr, append-nil, append_assoc, length-append}
+use Rattle.std.specs.Prelude.{◌⊎◌, ◌==◌, ◌||◌, All, Option, None, Some, is_none, is_some, option_map, slice_get, unwrap_or}
 use Rattle.std.proofs.lemmas.Bool.{cases_Bool}
 use Rattle.std.proofs.lemmas.Bool.Decides.{nat_tests}
 use Rattle.std.proofs.lemmas.List.{length-map, map-append}
@@ -12,22 +12,28 @@ use Rattle.index_media.specs.Clean.{is_clean_row}
 use Rattle.index_media.specs.InsertionSound.{fit_node}
 use Rattle.index_media.specs.KeyedRow.{KeyedRow, no_more, leaf_in, node_in, bare}
 use Rattle.index_media.specs.PlacedRow.{Stretch}
-use Rattle.table_nodes.specs.Beyond.{are_loaded, is_loaded}
+use Rattle.told_value.specs.declared.told.Told.{Told}
+use Rattle.table_nodes.specs.Beyond.{is_loaded}
 use Rattle.table_nodes.specs.BeyondLaws.{loaded_row}
 use Rattle.table_nodes.specs.Clean.{are_clean_below, is_clean_below}
 use Rattle.node_table.specs.Dirty.{dirty_among, dirty_behind, dirty_below, dirty_from, dirty_lists, dirty_node}
 use Rattle.table_nodes.specs.NodeView.{NodeView, node_before, row_of, stretch_at, tree_at, node_view_of, node_views, views_behind}
 use Rattle.node_table.specs.Placing.{without_number}
+use Rattle.node_table.specs.Unloaded.{are_loaded_if_dirty, is_loaded_if_dirty}
 use Rattle.table_nodes.specs.Sound.{AreSoundViews, IsSoundView}
+use Rattle.table_nodes.specs.StubLaws.{stub_view, viewed}
+use Rattle.table_nodes.specs.Stubs.{unplaced, unplaced_node, IsStubOf}
 use Rattle.table_nodes.specs.declared.link.Link.{Link}
 use Rattle.table_nodes.specs.declared.link.Link.TheVariants.{ToLeaf, ToNode}
 use Rattle.table_nodes.specs.declared.node.NodePlace.{NodePlace}
 use Rattle.table_nodes.specs.declared.node.Root.{Root}
 use Rattle.table_nodes.specs.declared.node.TableNode.{TableNode}
+use Rattle.table_nodes.specs.declared.seen.MediumSeen.{MediumSeen}
+use Rattle.table_nodes.specs.declared.stub_node.StubNode.{StubNode}
 use Rattle.index_cache.specs.Paged.{dirty_of, fanout_of, frozen_of}
 use Rattle.index_cache.specs.declared.paged.PagedIndex.{PagedIndex}
 use Rattle.index_commit.specs.Rooms.{Room, AreDistinctNumbers, IsNotAmong, all_rooms, place_by_number, place_room, taken_room, rooms_of}
-use Rattle.index_commit.specs.Written.{AreFirstsTaken, IsIndexKept, IsIndexTaken, node_links}
+use Rattle.index_commit.specs.Written.{AreFirstsTaken, IsIndexKept, IsIndexTaken}
 use Rattle.index_commit.proofs.Rooms.{node_kept}
 use Rattle.node_cache.specs.CleanRows.{and_left, and_right, clean_node}
 
@@ -188,13 +194,38 @@ more_filled at seen later known v w own same count all mine i x is = elim (get_c
       (w, subst W (sym place) (get_end later w), subst P (sym own_list) (subst Q e mine))
 ]
 
-abbrev first_links : List (List Link) → List Link
-first_links [] = []
-first_links (links ∷ rest) = links
+abbrev rest_nodes : List TableNode → List TableNode
+rest_nodes [] = []
+rest_nodes (node ∷ nodes) = nodes
 
-abbrev rest_links : List (List Link) → List (List Link)
-rest_links [] = []
-rest_links (links ∷ rest) = rest
+-- ---- a node that isn't loaded stays as it is
+-- what is known of a node that tells what is below it, and has a place
+stub_by : (x : TableNode) (place : Option NodePlace) (beyond : Option (Told MediumSeen)) → x.place ≡ place → x.beyond ≡ beyond → is_none beyond ≡ false → (is_some place || is_none beyond) ≡ true → (stub : StubNode) × IsStubOf x stub
+stub_by x place None e f tells placed = absurd cc
+stub_by x None (Some told) e f tells placed = absurd cc
+stub_by x (Some p) (Some told) e f tells placed = (record { level = x.level; place = p; told = told }, record { told = told; beyond = f; tells = refl; place = e; level = refl })
+
+-- rooms none of which is wanting
+fill_whole : (rooms : List (Option Room)) → nones rooms ≡ 0 → fill [] rooms ≡ rooms
+fill_whole [] none = refl
+fill_whole (Some room ∷ rooms) none = ap (λ (l : List (Option Room)). Some room ∷ l) (fill_whole rooms none)
+fill_whole (None ∷ rooms) none = absurd (omega (arith, none))
+
+-- such a node shows the same later, and has the room that it had
+stub_filled : (at : ℕ → Option Room) (n : ℕ) (seen later : List NodeView) (x y : TableNode) (below : List ℕ) (stub : StubNode) → IsStubOf x stub → IsStubOf y stub → is_clean_below (node_view_of seen x) ≡ true
+    → IsFilled at (dirty_node x.place n below) (node_rooms (node_view_of seen x)) (node_rooms (node_view_of later y))
+stub_filled at n seen later x y below stub was now clean =
+    let v = stub_view stub in
+    let C : NodeView → Type 0 = λ u. is_clean_below u ≡ true in
+    let none = clean_nones v.children (subst C (viewed seen x stub was) clean) in
+    let sum = nones_both (rooms_of v.children) (option_map place_room v.place ∷ []) in
+    let count : nones (node_rooms v) ≡ 0 = omega (arith, none, sum) in
+    let own : IsFilled at [] (node_rooms v) (node_rooms v) = (sym (fill_whole (node_rooms v) count), sym count) in
+    let P : List ℕ → Type 0 = λ l. IsFilled at l (node_rooms v) (node_rooms v) in
+    let Q : NodeView → Type 0 = λ u. IsFilled at (dirty_node x.place n below) (node_rooms u) (node_rooms v) in
+    let R : NodeView → Type 0 = λ u. IsFilled at (dirty_node x.place n below) (node_rooms (node_view_of seen x)) (node_rooms u) in
+    let clean_list : dirty_node x.place n below ≡ [] = ap (λ (o : Option NodePlace). dirty_node o n below) was.place in
+    subst R (sym (viewed later y stub now)) (subst Q (sym (viewed seen x stub was)) (subst P (sym clean_list) own))
 
 -- what is known of all nodes of both tables
 record AreTables (at : ℕ → Option Room) (f : ℕ) (seen later : List NodeView) : Type 0 where
@@ -202,13 +233,44 @@ record AreTables (at : ℕ → Option Room) (f : ℕ) (seen later : List NodeVie
   clean : (i : ℕ) (v : NodeView) → slice_get seen i ≡ Some v → is_clean_below v ≡ true
   places : (i : ℕ) (v w : NodeView) → slice_get seen i ≡ Some v → slice_get later i ≡ Some w → (at i ≡ option_map place_room w.place) × ((w.place ≡ v.place) ⊎ (v.place ≡ None))
 
+-- one node of each table, the second one as the first but for its place
+one_filled : (at : ℕ → Option Room) (f n : ℕ) (seen later : List NodeView) (known : List (List ℕ)) (x y : TableNode) → unplaced_node y ≡ unplaced_node x → is_loaded_if_dirty x ≡ true → AreFilled at seen later known
+    → fits f (bare (node_view_of seen x).children) ≡ true → is_clean_below (node_view_of seen x) ≡ true → at n ≡ option_map place_room (stretch_at y.place) → (stretch_at y.place ≡ stretch_at x.place) ⊎ (stretch_at x.place ≡ None)
+    → IsFilled at (dirty_node x.place n (dirty_among known x.links.items)) (node_rooms (node_view_of seen x)) (node_rooms (node_view_of later y))
+one_filled at f n seen later known x y same dirty all fit clean here places =
+    let v = node_view_of seen x in
+    let w = node_view_of later y in
+    let theirs : y.links.items ≡ x.links.items = ap (λ (t : TableNode). t.links.items) same in
+    let tells : y.beyond ≡ x.beyond = ap (λ (t : TableNode). t.beyond) same in
+    elim (cases_Bool (is_loaded x)) [
+      | inl loaded ↦
+          let L : List Link → Type 0 = λ l. IsFilled at (dirty_among known x.links.items) (rooms_of (row_of seen x.links.items)) (rooms_of (row_of later l)) in
+          let front = loaded_row seen x loaded in
+          let back = loaded_row later y (ap (λ (o : Option (Told MediumSeen)). is_none o) tells ∙ loaded) in
+          let F : KeyedRow → Type 0 = λ r. fits f (bare r) ≡ true in
+          let linked = subst L (sym theirs) (links_filled at f seen later known x.links.items all (subst F front fit)) in
+          let R : KeyedRow → Type 0 = λ r. IsFilled at (dirty_among known x.links.items) (rooms_of r) (rooms_of (row_of later y.links.items)) in
+          let S : KeyedRow → Type 0 = λ r. IsFilled at (dirty_among known x.links.items) (rooms_of v.children) (rooms_of r) in
+          own_filled at n (dirty_among known x.links.items) v.children w.children x.place y.place (subst S (sym back) (subst R (sym front) linked)) here places clean
+      | inr beyond ↦
+          let stub = stub_by x x.place x.beyond refl refl beyond dirty in
+          let was = stub.1 in
+          let theirs_too : is_loaded y ≡ false = ap (λ (o : Option (Told MediumSeen)). is_none o) tells ∙ beyond in
+          let place : y.place ≡ x.place = sym (kept_place y theirs_too) ∙ ap (λ (t : TableNode). t.place) same ∙ kept_place x beyond in
+          let now : IsStubOf y stub.0 = record { told = was.told; beyond = tells ∙ was.beyond; tells = was.tells; place = place ∙ was.place; level = was.level ∙ sym (ap (λ (t : TableNode). t.level) same) } in
+          stub_filled at n seen later x y (dirty_among known x.links.items) stub.0 was now clean
+    ]
+  where
+    kept_place : (t : TableNode) → is_loaded t ≡ false → (unplaced_node t).place ≡ t.place
+    kept_place t h = rw h refl
+
 all_filled : (at : ℕ → Option Room) (f : ℕ) (seen later : List NodeView) (known : List (List ℕ)) (nodes news : List TableNode) → length later ≡ length seen → length known ≡ length seen
-    → map node_links news ≡ map node_links nodes → are_loaded nodes ≡ true → are_loaded news ≡ true → AreTables at f (views_behind seen nodes) (views_behind later news) → AreFilled at seen later known
+    → unplaced news ≡ unplaced nodes → are_loaded_if_dirty nodes ≡ true → AreTables at f (views_behind seen nodes) (views_behind later news) → AreFilled at seen later known
     → AreFilled at (views_behind seen nodes) (views_behind later news) (dirty_behind known nodes)
-all_filled at f seen later known [] [] same count links old new tables all = all
-all_filled at f seen later known [] (y ∷ news) same count links old new tables all = absurd cc
-all_filled at f seen later known (x ∷ nodes) [] same count links old new tables all = absurd cc
-all_filled at f seen later known (x ∷ nodes) (y ∷ news) same count links old new tables all =
+all_filled at f seen later known [] [] same count nodes_are dirty tables all = all
+all_filled at f seen later known [] (y ∷ news) same count nodes_are dirty tables all = absurd cc
+all_filled at f seen later known (x ∷ nodes) [] same count nodes_are dirty tables all = absurd cc
+all_filled at f seen later known (x ∷ nodes) (y ∷ news) same count nodes_are dirty tables all =
     let v = node_view_of seen x in
     let w = node_view_of later y in
     let own = dirty_node x.place (length known) (dirty_among known x.links.items) in
@@ -217,24 +279,15 @@ all_filled at f seen later known (x ∷ nodes) (y ∷ news) same count links old
     let P : ℕ → Type 0 = λ n. slice_get (views_behind (later ++ w ∷ []) news) n ≡ Some w in
     subst P same (seen_stays (later ++ w ∷ []) news (length later) w (get_end later w)) in
     let places = tables.places (length seen) v w here there in
-    let theirs : y.links.items ≡ x.links.items = ap first_links links in
-    let L : List Link → Type 0 = λ l. IsFilled at (dirty_among known x.links.items) (rooms_of (row_of seen x.links.items)) (rooms_of (row_of later l)) in
-    let front = loaded_row seen x (and_left (is_loaded x) (are_loaded nodes) old) in
-    let back = loaded_row later y (and_left (is_loaded y) (are_loaded news) new) in
-    let F : KeyedRow → Type 0 = λ r. fits f (bare r) ≡ true in
-    let linked = subst L (sym theirs) (links_filled at f seen later known x.links.items all (subst F front (tables.sound (length seen) v here))) in
-    let R : KeyedRow → Type 0 = λ r. IsFilled at (dirty_among known x.links.items) (rooms_of r) (rooms_of (row_of later y.links.items)) in
-    let S : KeyedRow → Type 0 = λ r. IsFilled at (dirty_among known x.links.items) (rooms_of v.children) (rooms_of r) in
-    let below = subst S (sym back) (subst R (sym front) linked) in
+    let first : unplaced_node y ≡ unplaced_node x = cc in
     let N : ℕ → Type 0 = λ n. at n ≡ option_map place_room (stretch_at y.place) in
-    let mine = own_filled at (length known) (dirty_among known x.links.items) v.children w.children x.place y.place below (subst N (sym count) places.0) places.1
-    (tables.clean (length seen) v here) in
+    let mine = one_filled at f (length known) seen later known x y first (and_left (is_loaded_if_dirty x) (are_loaded_if_dirty nodes) dirty) all (tables.sound (length seen) v here) (tables.clean (length seen) v here)
+    (subst N (sym count) places.0) places.1 in
     let one = length-append seen (v ∷ []) in
     let two = length-append later (w ∷ []) in
     let three = length-append known (own ∷ []) in
-    all_filled at f (seen ++ v ∷ []) (later ++ w ∷ []) (known ++ own ∷ []) nodes news (omega (arith, one, two, same)) (omega (arith, one, three, count)) (ap rest_links links)
-    (and_right (is_loaded x) (are_loaded nodes) old) (and_right (is_loaded y) (are_loaded news) new) tables
-    (more_filled at seen later known v w own same count all mine)
+    all_filled at f (seen ++ v ∷ []) (later ++ w ∷ []) (known ++ own ∷ []) nodes news (omega (arith, one, two, same)) (omega (arith, one, three, count)) (ap rest_nodes nodes_are)
+    (and_right (is_loaded_if_dirty x) (are_loaded_if_dirty nodes) dirty) tables (more_filled at seen later known v w own same count all mine)
 
 -- ---- the tables of an index before and after
 pub get_all : {X : Type 0} (P : X → Type 0) (xs : List X) (n : ℕ) (x : X) → All P xs → slice_get xs n ≡ Some x → P x
@@ -279,7 +332,7 @@ none_filled at i v is = absurd cc
 root_filled : (a b : PagedIndex) (root : Root) → IsIndexKept a b → fits (fanout_of a) (bare (tree_at a.table.nodes.items (Some root))) ≡ true
     → IsFilled (room_now b) (dirty_below a.table.nodes.items (Some root)) (rooms_of (tree_at a.table.nodes.items (Some root))) (rooms_of (tree_at b.table.nodes.items (Some root)))
 root_filled a b root kept fit =
-    let all = all_filled (room_now b) (fanout_of a) [] [] [] a.table.nodes.items b.table.nodes.items refl refl kept.links a.loaded b.loaded (tables_are a b kept) (none_filled (room_now b)) in
+    let all = all_filled (room_now b) (fanout_of a) [] [] [] a.table.nodes.items b.table.nodes.items refl refl kept.unplaced a.table.dirty (tables_are a b kept) (none_filled (room_now b)) in
     let numbers = dirty_from a.table.nodes.items root.number in
     let P : List ℕ → Type 0 = λ l. IsFilled (room_now b) l (rooms_of (tree_at a.table.nodes.items (Some root))) (rooms_of (tree_at b.table.nodes.items (Some root))) in
     subst P (append-nil numbers) (node_filled (room_now b) (fanout_of a) (node_views a.table.nodes.items) (node_views b.table.nodes.items) (dirty_lists a.table.nodes.items) root.key root.number

@@ -1,18 +1,14 @@
 -- A clean row whose nodes stand is a stored row, and a clean index a stored index.
-use Rattle.std.proofs.Common.{◌≡◌, ℕ, ◌-◌, ◌<◌, true, List, refl, ap, sym, ◌∙◌, subst, arith}
-use Rattle.std.specs.Prelude.{◌==◌, ◌&&◌, nat_lt, Bool, Option, None, Some, slice_get}
+use Rattle.std.proofs.Common.{◌≡◌, ℕ, true, List, refl, ap, sym, ◌∙◌, subst, arith}
+use Rattle.std.specs.Prelude.{◌==◌, Option, None, Some, slice_get}
 use Rattle.std.proofs.lemmas.Bool.Decides.{nat_tests}
 use Rattle.index_tree.specs.Levels.{levelled}
-use Rattle.index_tree.specs.Order.{key_rank, leaf_rank}
-use Rattle.index_tree.specs.Shape.{Shape, done, leaf, node, count, fits, is_whole}
+use Rattle.index_tree.specs.Shape.{Shape, count, fits, is_whole}
 use Rattle.index_media.specs.Clean.{is_clean_row, node_branch, placed_of}
-use Rattle.index_media.specs.InsertionSound.{fit_node}
-use Rattle.index_media.specs.KeyedKeys.{key_before, AreKeysBounded}
+use Rattle.index_media.specs.KeyedKeys.{AreKeysBounded}
 use Rattle.index_media.specs.KeyedRow.{KeyedRow, no_more, leaf_in, node_in, bare}
-use Rattle.index_media.specs.Keys.{bound_before, AreBounded}
-use Rattle.index_media.specs.PlacedRow.{Stretch, ended, node_at, branches_of, plain}
+use Rattle.index_media.specs.PlacedRow.{Stretch, ended, node_at, branches_of}
 use Rattle.index_media.specs.Standing.{AreStandingAs}
-use Rattle.index_media.specs.Stored.{AreStored, IsIndexNodeAt}
 use Rattle.media_sys.specs.declared.branch.Branch.{Branch}
 use Rattle.index_commit.specs.Written.{IsRootOf}
 use Rattle.node_cache.specs.CleanRows.{row_bounded, row_plain, row_stored}

@@ -1,5 +1,5 @@
 -- What a commit leaves of an index, in memory and on the volume.
-use Rattle.std.specs.Prelude.{◌≡◌, ◌⊎◌, ◌<◌, ◌≤◌, ◌+◌, ◌-◌, ◌*◌, ◌%◌, ◌==◌, ℕ, if◌then◌else◌, List, [], ◌∷◌, ◌++◌, Option, None, Some, length, map, slice_get, All}
+use Rattle.std.specs.Prelude.{◌≡◌, ◌⊎◌, ◌<◌, ◌≤◌, ◌+◌, ◌-◌, ◌*◌, ◌%◌, ◌==◌, ℕ, if◌then◌else◌, List, [], ◌∷◌, ◌++◌, Option, None, Some, length, slice_get, All}
 use Rattle.ubifs_base.specs.Gap.{gap_of}
 use Rattle.ubifs_base.specs.declared.raw_geometry.RawGeometry.{RawGeometry}
 use Rattle.index_media.specs.Clean.{placed_of}
@@ -10,9 +10,8 @@ use Rattle.index_media.specs.Stored.{IsStoredIndex}
 use Rattle.media_sys.specs.declared.branch.Branch.{Branch}
 use Rattle.table_nodes.specs.NodeView.{tree_at}
 use Rattle.node_table.specs.Placing.{KeepsPlaces, without_number}
-use Rattle.table_nodes.specs.declared.link.Link.{Link}
+use Rattle.table_nodes.specs.Stubs.{unplaced}
 use Rattle.table_nodes.specs.declared.node.Root.{Root}
-use Rattle.table_nodes.specs.declared.node.TableNode.{TableNode}
 use Rattle.ubi_volume.specs.Frame.{Elsewhere, IsSameLeb, Works}
 use Rattle.ubi_volume.specs.Volume.{VolumeState, Keeps, Leaves, Only, filled}
 use Rattle.index_cache.specs.Commit.{said_of}
@@ -25,15 +24,11 @@ use Rattle.index_commit.specs.Standing.{AreOutside}
 use Rattle.index_commit.specs.declared.index_at.IndexAt.{IndexAt}
 use Rattle.index_commit.specs.declared.index_at.IndexHead.{IndexHead}
 
--- the links of a node of the table
-abbrev pub node_links : TableNode → List Link
-node_links node = node.links.items
-
 -- The index in memory: below each root, the frozen one and the one that is seen included, stands what stood there, but that
--- nodes that were dirty may have places. A node keeps its level and its links
+-- nodes that were dirty may have places. A node keeps its level and its links, and one that isn't loaded keeps its place and what it tells
 pub record IsIndexKept (old new : PagedIndex) : Type 0 where
   pub levels : (number : ℕ) → (said_of new number).level ≡ (said_of old number).level
-  pub links : map node_links new.table.nodes.items ≡ map node_links old.table.nodes.items
+  pub unplaced : unplaced new.table.nodes.items ≡ unplaced old.table.nodes.items
   pub frozen : KeepsPlaces (frozen_of old) (frozen_of new)
   pub tree : KeepsPlaces (keyed_tree_of old) (keyed_tree_of new)
   pub trees : (root : Option Root) → KeepsPlaces (tree_at old.table.nodes.items root) (tree_at new.table.nodes.items root)

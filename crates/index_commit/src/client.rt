@@ -9,10 +9,11 @@ ghost use Rattle.index_media.specs.Clean.{placed_of};
 ghost use Rattle.index_media.specs.KeyedRow.{KeyedRow, bare};
 ghost use Rattle.index_media.specs.PlacedRow.{PlacedRow, lebs_of, plain};
 ghost use Rattle.node_table.specs.Placing.{KeepsPlaces};
+ghost use Rattle.table_nodes.specs.Stubs.{unplaced};
 ghost use Rattle.ubi_volume.specs.Geometry.{IsGeometryOf};
 ghost use Rattle.ubi_volume.specs.Volume.{SameShape};
 ghost use Rattle.node_cache.specs.Loaded.{IsIndexOn};
-ghost use Rattle.index_cache.specs.Paged.{fanout_of, frozen_of, leaves_of, keyed_tree_of};
+ghost use Rattle.index_cache.specs.Paged.{fanout_of, frozen_of, leaves_of, keyed_tree_of, DoesIndexStand};
 ghost use Rattle.index_commit.specs.Lebs.{AreLebsApart, AreGivable, IsGiven};
 ghost use Rattle.index_commit.specs.Standing.{AreOutside};
 ghost use Rattle.index_commit.specs.Written.{AreLebsSettled, IsRootOf, KeepsOtherIndexes};
@@ -25,6 +26,7 @@ use index_cache::PagedIndex;
 use index_media::{an_index_depends_on_its_lebs_alone, an_insertion_goes_by_the_keys_of_branches};
 use index_tree::Leaf;
 use media_sys::Branch;
+use node_cache::NodeCache;
 use node_table::places_are_kept;
 use std::alloc::Global;
 use ubi_volume::Volume;
@@ -59,8 +61,9 @@ pub fn put_and_commit<V: Volume>(
     an_insertion_goes_by_the_keys_of_branches();
     changes_keep_what_stands();
     places_are_kept();
+    let mut cache = NodeCache::new(alloc)?;
     let mut index = PagedIndex::at_root(alloc, volume, geometry, root)?;
-    index.insert(alloc, leaf)?;
+    index.insert(alloc, volume, &mut cache, leaf)?;
     index.freeze();
     if index.dirty_nodes() > MOST_NODES {
         return Err(IndexFault::Memory);
@@ -87,6 +90,7 @@ fn write_seen<V: Volume>(
     ensures tree { OnOk result (KeepsPlaces (keyed_tree_of index.old) (keyed_tree_of index.new)) }
     ensures outside { OnOk result ((others : List ℕ) → AreLebsApart lebs.now others → AreOutside (V.state volume.old).holds (lebs.now ++ others) (keyed_tree_of index.old)
         → AreOutside (V.state volume.new).holds others (keyed_tree_of index.new)) }
+    ensures nodes { (unplaced index.new.table.nodes.items ≡ unplaced index.old.table.nodes.items) × (index.new.root ≡ index.old.root) }
     ensures fanout { fanout_of index.new ≡ fanout_of index.old }
     ensures shape { SameShape (V.state volume.old) (V.state volume.new) }
     ensures number { sqnum.new ≤ sqnum.old + 2 ^ 62 }
@@ -99,7 +103,7 @@ fn write_seen<V: Volume>(
 }
 
 /// Commits an index, puts a leaf, and commits again, to LEBs other than the first commit's. No node of the index stands in any of
-/// them. After Ok the index with the leaf stands on the volume.
+/// them. Nodes of it may be on the volume alone. After Ok the index with the leaf stands on the volume.
 pub fn commit_twice<V: Volume>(
     alloc: Global,
     volume: &mut V,
@@ -115,6 +119,7 @@ pub fn commit_twice<V: Volume>(
     requires fits { fits (fanout_of index.old) (bare (keyed_tree_of index.old)) ≡ true }
     requires lebs { AreGivable (V.state volume.old).leb_cnt lebs.now × AreGivable (V.state volume.old).leb_cnt others.now × AreLebsApart lebs.now others.now }
     requires outside { AreOutside (V.state volume.old).holds (lebs.now ++ others.now) (keyed_tree_of index.old) }
+    requires stands { DoesIndexStand (V.state volume.old) index.old }
     requires key { IsKey leaf.key }
     requires number { sqnum.old < 2 ^ 62 }
     ensures leaves { OnOk result (contents (bare (frozen_of index.new)) ≡ placed leaf (leaves_of index.old)) }
@@ -123,6 +128,7 @@ pub fn commit_twice<V: Volume>(
     changes_keep_what_stands();
     places_are_kept();
     let _first = write_seen(alloc, volume, geometry, index, lebs, sqnum)?;
-    index.insert(alloc, leaf)?;
+    let mut cache = NodeCache::new(alloc)?;
+    index.insert(alloc, volume, &mut cache, leaf)?;
     write_seen(alloc, volume, geometry, index, others, sqnum)
 }

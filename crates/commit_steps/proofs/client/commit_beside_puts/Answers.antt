@@ -1,14 +1,31 @@
-use Rattle.std.proofs.Common.{◌≡◌, ◌++◌, [], ℕ, List, ◌∙◌, subst, append-nil}
-use Rattle.std.specs.Prelude.{All}
+use Rattle.std.proofs.Common.{◌≡◌, ◌++◌, [], ℕ, List, ◌∙◌, sym, subst, append-nil}
+use Rattle.std.specs.Prelude.{All, Option}
 use Rattle.index_commit.specs.Lebs.{IsGiven}
 use Rattle.index_media.specs.Clean.{placed_of}
 use Rattle.index_media.specs.KeyedRow.{KeyedRow}
 use Rattle.node_table.specs.Placing.{KeepsPlaces}
+use Rattle.node_table.specs.Unloaded.{DoesRootStand}
+use Rattle.table_nodes.specs.declared.node.Root.{Root}
+use Rattle.table_nodes.specs.declared.node.TableNode.{TableNode}
 use Rattle.index_cache.specs.Paged.{fanout_of, frozen_of}
 use Rattle.index_commit.specs.Written.{IsRootOf}
 use Rattle.commit_steps.specs.UnderWayLaws.{commit_begun, commit_ended, commit_settled, index_stays, outside_of}
 use Rattle.commit_steps.proofs.Steps.{clean_row}
 use Rattle.commit_steps.proofs.client.commit_beside_puts.Goals as goal
+
+pub take_steps-requires-clause-stands : goal.take_steps-requires-clause-stands
+take_steps-requires-clause-stands g c =
+    let a = g.V.Volume.state c.args.volume.now in
+    let begun = c.freeze.new.self in
+    let D : List TableNode → Type 0 = λ ns. DoesRootStand a ns begun.root in
+    let R : Option Root → Type 0 = λ r. DoesRootStand a c.args.index.now.table.nodes.items r in
+    subst D (sym {A = List TableNode} c.freeze.ensures.nodes) (subst R (sym c.freeze.ensures.seen) c.requires.seen.3)
+
+pub take_steps-requires-clause-way : goal.take_steps-requires-clause-way
+take_steps-requires-clause-way g c =
+    let a = g.V.Volume.state c.args.volume.now in
+    let seen = c.requires.seen in
+    (seen.0, [], seen.1, commit_begun a seen.0 c.args.index.now c.freeze.new.self c.freeze.ensures.frozen c.freeze.ensures.tree seen.2)
 
 pub returns-clause-stands : goal.returns-clause-stands
 returns-clause-stands g c = λ kept apart seen.
@@ -32,7 +49,7 @@ returns-clause-next g c = λ kept apart seen.
     let way = c.in_ok-take_steps.ensures.done kept [] apart (commit_begun a kept c.args.index.now c.freeze.new.self c.freeze.ensures.frozen c.freeze.ensures.tree seen) in
     let clean = clean_row (frozen_of final) (placed_of (frozen_of final)) c.committed_root.ensures.clean in
     let P : List ℕ → Type 0 = λ xs. All (IsGiven xs) way.0 in
-    (way.0, subst P (append-nil c.args.lebs.now) way.1, commit_ended b kept way.0 final clean way.2)
+    (way.0, subst P (append-nil c.args.lebs.now) way.1, commit_ended b kept way.0 final clean way.2, c.in_ok-take_steps.ensures.stands)
 
 pub returns-clause-frozen : goal.returns-clause-frozen
 returns-clause-frozen g c =

@@ -17,6 +17,21 @@ use Rattle.commit_steps.specs.UnderWayLaws.{WorksBeside-keeps, WorksBeside-then,
 use Rattle.commit_steps.proofs.Steps.{if_ok_both}
 use Rattle.commit_steps.proofs.client.load_and_commit.Goals as goal
 
+pub commit_beside_puts-requires-clause-seen : goal.commit_beside_puts-requires-clause-seen
+commit_beside_puts-requires-clause-seen g c =
+    let a = g.V.Volume.state c.args.volume.now in
+    let b = g.V.Volume.state c.at_root.new.volume in
+    let row = c.requires.index.0 in
+    let on = c.requires.index.1 in
+    let settled = c.requires.index.2 in
+    let apart = c.requires.index.3 in
+    let lebs : List ℕ = lebs_of row in
+    let index = c.in_ok-index.index in
+    let own : IsGiven lebs c.args.bud → ⊥ = λ given. apart c.args.bud given (inl refl) in
+    let first = index_loaded a row index (λ others two. c.changes_keep_what_stands.ensures.loaded a.holds others c.args.geometry.now.fanout c.args.root.now row on.index two) (c.in_ok-index.ensures.loaded row on) settled in
+    let read = seen_beside a b lebs index (WorksBeside-keeps a b lebs c.at_root.ensures.reads.keeps) first in
+    (lebs, apart, c.in_ok-put_leaf.ensures.seen lebs own read, c.in_ok-put_leaf.ensures.stands lebs own read.seen)
+
 pub returns-in_err-put_leaf-clause-old_stays : goal.returns-in_err-put_leaf-clause-old_stays
 returns-in_err-put_leaf-clause-old_stays g c = λ row on settled apart.
     let a = g.V.Volume.state c.args.volume.now in

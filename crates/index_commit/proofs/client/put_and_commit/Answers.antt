@@ -1,4 +1,4 @@
-use Rattle.std.proofs.Common.{◌≡◌, ◌-◌, true, ℕ, [], ap, sym, ◌∙◌, subst, append-nil}
+use Rattle.std.proofs.Common.{List, ◌≡◌, ◌-◌, true, ℕ, [], ap, sym, ◌∙◌, subst, append-nil}
 use Rattle.index_tree.specs.Order.{placed}
 use Rattle.index_tree.specs.Shape.{Shape, contents, fits}
 use Rattle.index_media.specs.Clean.{placed_of}
@@ -6,6 +6,8 @@ use Rattle.index_media.specs.KeyedRow.{KeyedRow, all_clean, bare}
 use Rattle.index_media.specs.PlacedRow.{plain}
 use Rattle.node_table.specs.declared.change.Change.TheVariants.{Insert}
 use Rattle.index_cache.specs.Paged.{fanout_of, frozen_of, keyed_tree_of}
+use Rattle.ubi_volume.specs.VolumeLaws.{Keeps-then, Leaves-keeps}
+use Rattle.index_media.specs.Stored.{IsStoredIndex}
 use Rattle.ubifs_base.specs.RawOf.{raw_of}
 use Rattle.index_commit.specs.Rooms.{IsIndexLaidOut}
 use Rattle.index_commit.specs.Standing.{AreOutside, IsOutside}
@@ -18,7 +20,7 @@ use Rattle.index_commit.proofs.client.put_and_commit.Goals as goal
 pub write_index-requires-clause-outside : goal.write_index-requires-clause-outside
 write_index-requires-clause-outside g c =
     let a = g.V.Volume.state c.args.volume.now in
-    let b = g.V.Volume.state c.at_root.new.volume in
+    let b = g.V.Volume.state c.insert.new.volume in
     let lebs = c.args.lebs.now in
     let f = c.args.geometry.now.fanout in
     let row = c.requires.index.0 in
@@ -35,7 +37,7 @@ write_index-requires-clause-outside g c =
     let before = subst A (sym loaded) (stand.loaded a.holds lebs f c.args.root.now row on.index c.requires.index.2) in
     let after = stand.changed (fanout_of index) (Insert c.args.leaf) a.holds lebs (keyed_tree_of index) fit before in
     let made = subst A (sym (c.freeze.ensures.frozen ∙ c.in_ok-insert.ensures.tree)) after in
-    are_standing a.holds b.holds (IsOutside lebs) (IsOutside lebs) frozen (λ k. ([], c.at_root.ensures.reads.keeps.holds k ∙ sym (append-nil (a.holds k)))) (λ s n g given. given) made
+    are_standing a.holds b.holds (IsOutside lebs) (IsOutside lebs) frozen (λ k. ([], c.insert.ensures.reads.keeps.holds k ∙ c.at_root.ensures.reads.keeps.holds k ∙ sym (append-nil (a.holds k)))) (λ s n g given. given) made
 
 pub returns-clause-leaves : goal.returns-clause-leaves
 returns-clause-leaves g c = λ row on.
@@ -56,5 +58,12 @@ returns-clause-leaves g c = λ row on.
 
 pub returns-clause-old_stays : goal.returns-clause-old_stays
 returns-clause-old_stays g c =
-    kept_indexes_then c.an_index_depends_on_its_lebs_alone.ensures (g.V.Volume.state c.args.volume.now) (g.V.Volume.state c.at_root.new.volume) (g.V.Volume.state c.write_index.new.volume) c.args.lebs.now
-    c.at_root.ensures.reads.keeps c.write_index.ensures.old_stays
+    kept_indexes_then c.an_index_depends_on_its_lebs_alone.ensures (g.V.Volume.state c.args.volume.now) (g.V.Volume.state c.insert.new.volume) (g.V.Volume.state c.write_index.new.volume) c.args.lebs.now
+    (Keeps-then (g.V.Volume.state c.args.volume.now) (g.V.Volume.state c.at_root.new.volume) (g.V.Volume.state c.insert.new.volume) c.at_root.ensures.reads.keeps c.insert.ensures.reads.keeps) c.write_index.ensures.old_stays
+
+pub returns-then-dirty_nodes-gt-MOST_NODES-clause-old_stays : goal.returns-then-dirty_nodes-gt-MOST_NODES-clause-old_stays
+returns-then-dirty_nodes-gt-MOST_NODES-clause-old_stays g c = λ fanout root placed stored all.
+    let a = g.V.Volume.state c.args.volume.now in
+    let b = g.V.Volume.state c.at_root.new.volume in
+    let d = g.V.Volume.state c.insert.new.volume in
+    Leaves-keeps a d (λ (x : ℕ → List ℕ). IsStoredIndex x fanout root placed) (Keeps-then a b d c.at_root.ensures.reads.keeps c.insert.ensures.reads.keeps)

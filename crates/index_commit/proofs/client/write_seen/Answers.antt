@@ -1,7 +1,8 @@
-use Rattle.std.proofs.Common.{◌++◌, List, ℕ, sym, subst}
+use Rattle.std.proofs.Common.{◌++◌, List, ℕ, ap, sym, ◌∙◌, subst}
 use Rattle.std.specs.Prelude.{Option}
 use Rattle.index_media.specs.KeyedRow.{KeyedRow}
 use Rattle.table_nodes.specs.NodeView.{tree_at}
+use Rattle.table_nodes.specs.Stubs.{unplaced}
 use Rattle.table_nodes.specs.declared.node.Root.{Root}
 use Rattle.index_cache.specs.Paged.{keyed_tree_of}
 use Rattle.index_commit.specs.Lebs.{AreLebsApart}
@@ -21,3 +22,8 @@ returns-clause-outside g c =
     let A : KeyedRow → Type 0 = λ r. AreOutside a.holds (lebs ++ others) r in
     let B : Option Root → Type 0 = λ root. AreOutside b.holds others (tree_at final.table.nodes.items root) in
     subst B (sym c.write_index.ensures.index.kept.roots.root) ((c.write_index.ensures.standing done).0.nodes others begun.root two (subst A (sym c.freeze.ensures.tree) h)))
+
+pub returns-clause-nodes : goal.returns-clause-nodes
+returns-clause-nodes g c =
+    let kept = c.write_index.ensures.index.kept in
+    (kept.unplaced ∙ ap unplaced c.freeze.ensures.nodes, kept.roots.root ∙ c.freeze.ensures.seen)

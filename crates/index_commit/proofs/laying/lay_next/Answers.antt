@@ -47,7 +47,8 @@ returns-clause-laid c =
       trees = c.place.ensures.trees;
       nodes = c.place.ensures.nodes;
       dirty = c.place.ensures.dirty;
-      roots = c.place.ensures.kept;
+      unplaced = c.place.ensures.unplaced;
+      roots = c.place.ensures.keeps;
     } in
     let laid : IsLaidBehind (node_length (said_of old found.found.node)) c.args.room used front own bytes = record {
       start = sym (ap length (sym first.ensures.front) ∙ first.ensures.front_len);
