@@ -494,6 +494,36 @@ const REFUSED: &[Step] = &[
     Step::All(&[2]),
 ];
 
+// Changes of an index of three levels that was taken up by its root: each loads its way alone, and look-ups go on on the volume beside it.
+const PARTLY_LOADED: &[Step] = &[
+    Step::Put(1),
+    Step::Put(2),
+    Step::Put(3),
+    Step::Put(4),
+    Step::Put(5),
+    Step::Put(6),
+    Step::Put(7),
+    Step::Put(8),
+    Step::Commit(20, 528, 68),
+    Step::Put(9),
+    Step::Has(1, true),
+    Step::Next(4, Some(5)),
+    Step::Size(7, 8),
+    Step::All(&[1, 2, 3, 4, 5, 6, 7, 8, 9]),
+    Step::TakeRange(2, 3),
+    Step::Has(2, false),
+    Step::Next(1, Some(4)),
+    Step::Has(6, true),
+    Step::Commit(21, 440, 68),
+    Step::All(&[1, 4, 5, 6, 7, 8, 9]),
+    Step::Move(5),
+    Step::Take(4),
+    Step::Next(1, Some(5)),
+    Step::Size(6, 7),
+    Step::Commit(22, 264, 68),
+    Step::All(&[1, 5, 6, 7, 8, 9]),
+];
+
 const TABLES: &[&[Step]] = &[
     ASCENDING,
     COMMITTED,
@@ -501,6 +531,7 @@ const TABLES: &[&[Step]] = &[
     TAKEN_COMMITTED,
     LOOKED_UP,
     REFUSED,
+    PARTLY_LOADED,
 ];
 
 #[test]

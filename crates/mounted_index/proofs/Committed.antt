@@ -14,7 +14,7 @@ use Rattle.ubifs_base.specs.declared.geometry.Geometry.{Geometry}
 use Rattle.ubifs_base.specs.declared.raw_geometry.RawGeometry.{RawGeometry}
 use Rattle.index_media.specs.Clean.{is_clean_row, placed_of}
 use Rattle.index_media.specs.InsertionSound.{AreKeys}
-use Rattle.index_media.specs.KeyedRow.{KeyedRow, all_clean, bare}
+use Rattle.index_media.specs.KeyedRow.{KeyedRow, no_more, all_clean, bare}
 use Rattle.index_media.specs.PlacedRow.{PlacedRow, ended, leaf_at, node_at, lebs_of, stretch_of}
 use Rattle.index_tree.specs.Distinct.{AreDistinct}
 use Rattle.index_tree.specs.Shape.{contents}
@@ -22,11 +22,15 @@ use Rattle.media_sys.specs.Index.{Index}
 use Rattle.media_sys.specs.declared.branch.Branch.{Branch}
 use Rattle.node_cache.specs.Kept.{AreKept}
 use Rattle.node_cache.specs.Loaded.{IsIndexOn}
+use Rattle.node_cache.specs.OnVolume.{IsOnVolume}
 use Rattle.node_cache.specs.declared.cache.NodeCache.{NodeCache}
 use Rattle.node_table.specs.Dirty.{dirty_below}
 use Rattle.table_nodes.specs.NodeView.{tree_at}
 use Rattle.node_table.specs.Placing.{KeepsPlaces}
+use Rattle.node_table.specs.StandingRows.{standing_row}
 use Rattle.node_table.specs.Staging.{IsSoundRoot}
+use Rattle.node_table.specs.Unloaded.{DoesRootStand}
+use Rattle.table_nodes.specs.Stubs.{unplaced}
 use Rattle.table_nodes.specs.declared.node.Root.{Root}
 use Rattle.table_nodes.specs.declared.node.TableNode.{TableNode}
 use Rattle.ubi_volume.specs.Frame.{Elsewhere}
@@ -34,7 +38,7 @@ use Rattle.ubi_volume.specs.FrameLaws.{IsSameLeb-none, Works-none}
 use Rattle.ubi_volume.specs.Volume.{VolumeState, Keeps, Leaves, Only, SameShape}
 use Rattle.ubi_volume.specs.VolumeLaws.{Leaves-none}
 use Rattle.index_cache.specs.Commit.{said_of}
-use Rattle.index_cache.specs.Paged.{dirty_of, fanout_of, frozen_of, keyed_tree_of, KeepsRoots}
+use Rattle.index_cache.specs.Paged.{dirty_of, fanout_of, frozen_of, keyed_tree_of, DoesIndexStand, KeepsRoots}
 use Rattle.index_cache.specs.declared.paged.PagedIndex.{PagedIndex}
 use Rattle.index_commit.specs.Answers.{IsFullOf, IsIndexNotFailed, OnMemory}
 use Rattle.index_commit.specs.LebTexts.{AreLebsLeft, AreLebsOf, IsLebOf, firsts, nodes_written}
@@ -50,6 +54,7 @@ use Rattle.index_commit.specs.declared.index_fault.IndexFault.TheVariants.{Memor
 use Rattle.commit_steps.specs.UnderWayLaws.{clean_lebs, given_behind, given_front, given_of, outside_of, within_of}
 use Rattle.mounted_index.specs.Committed.{HasNodesFrom, AreNodesWritten, IsBeside, IsCommit, IsRootOn, IsShortOf, IsWrittenAt, OnWant, nodes_to_write}
 use Rattle.mounted_index.specs.Shown.{IsRowOfNodes, KeepsShown, Shows, StandsIn, are_on_medium}
+use Rattle.mounted_index.specs.ShownLaws.{StandsIn-beside, StandsIn-index}
 use Rattle.mounted_index.specs.declared.mounted.IndexNodes.{IndexNodes}
 use Rattle.mounted_index.specs.declared.mounted.IndexNodes.TheVariants.{OnMedium, InMemory}
 use Rattle.mounted_index.specs.declared.mounted.MountedIndex.{MountedIndex}
@@ -337,27 +342,55 @@ want_more P Q (Err (Full n k)) h f = f h
 want_more P Q (Err EqualKeys) h f = tt
 want_more P Q (Err (Volume count)) h f = tt
 
--- an index in memory of which neither a node nor the root changed shows what it showed, once changes are adopted too
+pub want_both : {T : Type 0} (P Q : Type 0) (r : Result T IndexFault) → OnWant P r → OnWant Q r → OnWant (P × Q) r
+want_both P Q (Ok x) h k = tt
+want_both P Q (Err Memory) h k = (h, k)
+want_both P Q (Err (Full n m)) h k = (h, k)
+want_both P Q (Err EqualKeys) h k = tt
+want_both P Q (Err (Volume count)) h k = tt
+
+-- the same nodes and the same root stand where those do
+pub index_as : (b : VolumeState) (index final : PagedIndex) → final.table.nodes.items ≡ index.table.nodes.items → final.root ≡ index.root → DoesIndexStand b index → DoesIndexStand b final
+index_as b index final items root h =
+    let D : List TableNode → Type 0 = λ xs. DoesRootStand b xs final.root in
+    let R : Option Root → Type 0 = λ r. DoesRootStand b index.table.nodes.items r in
+    subst D (sym items) (subst R (sym root) h)
+
+-- an index in memory of which neither a node nor the root changed shows what it showed, once changes are adopted too, if roots that stood do
 pub kept_shown : (a b : VolumeState) (self : MountedIndex) (cache : NodeCache) (index final : PagedIndex) → self.nodes ≡ InMemory index → AreKept b.holds cache
-    → (final.table.nodes.items ≡ index.table.nodes.items) × (final.root ≡ index.root) → fanout_of final ≡ fanout_of index
+    → ((root : Option Root) → DoesRootStand a index.table.nodes.items root → DoesRootStand b index.table.nodes.items root) → (final.table.nodes.items ≡ index.table.nodes.items) × (final.root ≡ index.root) → fanout_of final ≡ fanout_of index
     → KeepsShown a b self (record { geometry = self.geometry; nodes = InMemory final; cache = cache })
-kept_shown a b self cache index final is kept same fanout =
+kept_shown a b self cache index final is kept moved same fanout =
     let f = self.geometry.fanout in
     let items = index.table.nodes.items in
     let tree : keyed_tree_of final ≡ keyed_tree_of index = ap (λ (xs : List TableNode). tree_at xs final.root) same.0 ∙ ap (tree_at items) same.1 in
     record {
-      shown = λ row s. let own = nodes_as a f row self.nodes (InMemory index) is s.nodes in record { nodes = (own.0 ∙ sym tree, fanout ∙ own.1); kept = kept };
+      shown = λ row s. let own = nodes_as a f row self.nodes (InMemory index) is s.nodes in record { nodes = (own.0 ∙ sym tree, fanout ∙ own.1, index_as b index final same.0 same.1 (moved index.root own.2)); kept = kept };
       staged = λ staged row s.
-          let own = staged_as f row staged self.nodes (InMemory index) is s.nodes in
+          let own = staged_as a f row staged self.nodes (InMemory index) is s.nodes in
           let S : List TableNode → Type 0 = λ xs. IsSoundRoot xs staged.root in
-          record { nodes = (own.0 ∙ sym (ap (λ (xs : List TableNode). tree_at xs staged.root) same.0), fanout ∙ own.1, subst S (sym same.0) own.2); kept = kept };
+          let D : List TableNode → Type 0 = λ xs. DoesRootStand b xs staged.root in
+          record { nodes = (own.0 ∙ sym (ap (λ (xs : List TableNode). tree_at xs staged.root) same.0), fanout ∙ own.1, subst S (sym same.0) own.2, subst D (sym same.0) (moved staged.root own.3)); kept = kept };
       alone = sym (ap are_on_medium is);
       geometry = refl;
     }
 
+-- of an empty index no node needs to stand
+empty_stands : (b : VolumeState) (index : PagedIndex) → keyed_tree_of index ≡ no_more → DoesIndexStand b index
+empty_stands b index none = let O : KeyedRow → Type 0 = λ r. IsOnVolume b r in standing_row b index.table.nodes.items index.root (subst O (sym none) tt)
+
+-- an index stands after nodes were written to LEBs beside those that its clean nodes stand in, and have got places
+pub written_stands : (a b : VolumeState) (kept lebs : List ℕ) (index final : PagedIndex) → SameShape a b → AreLebsApart kept lebs → WorksInLebs a b lebs → StandsIn a kept (keyed_tree_of index)
+    → unplaced final.table.nodes.items ≡ unplaced index.table.nodes.items → final.root ≡ index.root → DoesIndexStand b final
+written_stands a b kept lebs index final shape two works stands nodes root =
+    let now = StandsIn-beside a b kept (keyed_tree_of index) shape (λ k one. (works.others k (λ given. two k one given)).holds) stands in
+    let D : List TableNode → Type 0 = λ xs. IsOnVolume b (tree_at xs final.root) in
+    let R : Option Root → Type 0 = λ r. DoesRootStand b index.table.nodes.items r in
+    subst D (sym nodes) (subst R (sym root) (StandsIn-index b kept index (keyed_tree_of index) refl now))
+
 -- the nodes are on the volume from the root on that was written; an empty index has none
 pub nodes_let_go : (b : VolumeState) (f : ℕ) (row : KeyedRow) (root : Option Branch) (nodes : IndexNodes) → IsRootOn b f row root → HasNodesFrom f root nodes → IsRowOfNodes b f row nodes
-nodes_let_go b f row None nodes on h = let P : IndexNodes → Type 0 = λ n. IsRowOfNodes b f row n in subst P (sym h.1) (on ∙ sym h.2, h.3)
+nodes_let_go b f row None nodes on h = let P : IndexNodes → Type 0 = λ n. IsRowOfNodes b f row n in subst P (sym h.1) (on ∙ sym h.2, h.3, empty_stands b h.0 h.2)
 nodes_let_go b f row (Some root) nodes on h = let P : IndexNodes → Type 0 = λ n. IsRowOfNodes b f row n in subst P (sym h) on
 
 pub alone_from : (f : ℕ) (root : Option Branch) (nodes : IndexNodes) → HasNodesFrom f root nodes → are_on_medium nodes ≡ is_some root

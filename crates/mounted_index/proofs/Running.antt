@@ -1,6 +1,6 @@
 -- A commit in steps, from call to call.
 use Rattle.std.proofs.Common.{◌≡◌, ℕ, ◌-◌, ◌<◌, true, List, [], ◌∷◌, ◌++◌, length, refl, ap, sym, ◌∙◌, subst, arith, inl, inr}
-use Rattle.std.specs.Prelude.{◌&&◌, Bool, Option, None, Some, All, IfOk, Result, Ok, Err, option_map, slice_get}
+use Rattle.std.specs.Prelude.{◌&&◌, Bool, Option, None, Some, All, IfOk, OnErr, OnOk, Result, Ok, Err, option_map, slice_get}
 use Rattle.std.proofs.lemmas.List.Elements.{All-weaker}
 use Rattle.ubifs_base.specs.declared.geometry.Geometry.{Geometry}
 use Rattle.ubifs_base.specs.declared.raw_geometry.RawGeometry.{RawGeometry}
@@ -19,9 +19,11 @@ use Rattle.node_cache.specs.declared.cache.NodeCache.{NodeCache}
 use Rattle.table_nodes.specs.NodeView.{tree_at}
 use Rattle.node_table.specs.Placing.{KeepsPlaces}
 use Rattle.node_table.specs.Staging.{IsSoundRoot}
+use Rattle.node_table.specs.Unloaded.{DoesRootStand}
+use Rattle.node_table.specs.UnloadedRoots.{root_moved}
 use Rattle.table_nodes.specs.declared.node.Root.{Root}
 use Rattle.table_nodes.specs.declared.node.TableNode.{TableNode}
-use Rattle.index_cache.specs.Paged.{dirty_of, fanout_of, frozen_of, keyed_tree_of, KeepsNodes}
+use Rattle.index_cache.specs.Paged.{dirty_of, fanout_of, frozen_of, keyed_tree_of, DoesIndexStand, KeepsNodes}
 use Rattle.index_cache.specs.declared.calls.Staged.{Staged}
 use Rattle.index_cache.specs.declared.commit.DirtyNode.{DirtyNode}
 use Rattle.index_cache.specs.declared.paged.PagedIndex.{PagedIndex}
@@ -40,7 +42,10 @@ use Rattle.commit_steps.specs.UnderWayLaws.{WorksBeside-keeps, all_given, clean_
 use Rattle.ubi_volume.specs.FrameLaws.{IsSameLeb-none}
 use Rattle.ubi_volume.specs.Volume.{VolumeState, Keeps, Leaves, Only, SameShape}
 use Rattle.ubi_volume.specs.VolumeLaws.{Leaves-none}
-use Rattle.mounted_index.specs.Committed.{HasNodesFrom, IsRootOn}
+use Rattle.node_table.specs.Dirty.{dirty_below}
+use Rattle.ubifs_base.specs.declared.memory.Memory.{Memory as MemoryFault}
+use Rattle.mounted_index.specs.Committed.{HasNodesFrom, IsRootOn, dirty_nodes_in}
+use Rattle.mounted_index.specs.DirtyLaws.{counted_below}
 use Rattle.mounted_index.specs.Running.{IsAfterStep, IsCommitEnded, IsCommitOfNodes, IsCommitRunning, IsCommitStep, IsStepWritten, dirty_left}
 use Rattle.mounted_index.specs.RunningLaws.{StandsIn-running}
 use Rattle.mounted_index.specs.Shown.{KeepsOutside, KeepsShown, Shows, ShowsStaged, StandsIn, are_on_medium}
@@ -48,7 +53,7 @@ use Rattle.mounted_index.specs.ShownLaws.{LoadedNodesStand, StandsIn-taken}
 use Rattle.mounted_index.specs.declared.mounted.IndexNodes.{IndexNodes}
 use Rattle.mounted_index.specs.declared.mounted.IndexNodes.TheVariants.{OnMedium, InMemory}
 use Rattle.mounted_index.specs.declared.mounted.MountedIndex.{MountedIndex}
-use Rattle.mounted_index.proofs.Committed.{if_ok_done, kept_shown, nodes_count, nodes_let_go, none_works, root_on, stands_after, stands_more}
+use Rattle.mounted_index.proofs.Committed.{if_ok_done, index_as, kept_shown, nodes_count, nodes_let_go, none_works, root_on, stands_after, stands_more, written_stands}
 use Rattle.mounted_index.proofs.Shown.{nodes_as, staged_as}
 use Rattle.node_cache.specs.CleanRows.{all_is_clean, placed_again}
 
@@ -70,11 +75,12 @@ frozen_shown a self index final is items seen fanout =
     let f = self.geometry.fanout in
     let tree : keyed_tree_of final ≡ keyed_tree_of index = ap (λ (xs : List TableNode). tree_at xs final.root) items ∙ ap (tree_at index.table.nodes.items) seen in
     record {
-      shown = λ row s. let own = nodes_as a f row self.nodes (InMemory index) is s.nodes in record { nodes = (own.0 ∙ sym tree, fanout ∙ own.1); kept = s.kept };
+      shown = λ row s. let own = nodes_as a f row self.nodes (InMemory index) is s.nodes in record { nodes = (own.0 ∙ sym tree, fanout ∙ own.1, index_as a index final items seen own.2); kept = s.kept };
       staged = λ staged row s.
-          let own = staged_as f row staged self.nodes (InMemory index) is s.nodes in
+          let own = staged_as a f row staged self.nodes (InMemory index) is s.nodes in
           let S : List TableNode → Type 0 = λ xs. IsSoundRoot xs staged.root in
-          record { nodes = (own.0 ∙ sym (ap (λ (xs : List TableNode). tree_at xs staged.root) items), fanout ∙ own.1, subst S (sym items) own.2); kept = s.kept };
+          let D : List TableNode → Type 0 = λ xs. DoesRootStand a xs staged.root in
+          record { nodes = (own.0 ∙ sym (ap (λ (xs : List TableNode). tree_at xs staged.root) items), fanout ∙ own.1, subst S (sym items) own.2, subst D (sym items) own.3); kept = s.kept };
       alone = sym (ap are_on_medium is);
       geometry = refl;
     }
@@ -86,13 +92,13 @@ begun_alone a kept self row root is s stands settled =
     record { shown = s; there = stands.there; nodes = subst N (sym is) (refl, settled, stands.within) }
 
 pub begun_frozen : ((row : KeyedRow) → KeepsPlaces row row) → (a : VolumeState) (kept : List ℕ) (self : MountedIndex) (row : KeyedRow) (index final : PagedIndex) → self.nodes ≡ InMemory index → frozen_of final ≡ keyed_tree_of index
-    → keyed_tree_of final ≡ keyed_tree_of index → fanout_of final ≡ fanout_of index → Shows a self row → StandsIn a kept row → AreSettledLebs a kept → IsCommitRunning a kept [] row (with_nodes self (InMemory final) self.cache) row
-begun_frozen none a kept self row index final is frozen tree fanout s stands settled =
+    → keyed_tree_of final ≡ keyed_tree_of index → fanout_of final ≡ fanout_of index → (DoesIndexStand a index → DoesIndexStand a final) → Shows a self row → StandsIn a kept row → AreSettledLebs a kept → IsCommitRunning a kept [] row (with_nodes self (InMemory final) self.cache) row
+begun_frozen none a kept self row index final is frozen tree fanout there s stands settled =
     let own = nodes_as a self.geometry.fanout row self.nodes (InMemory index) is s.nodes in
     let W : KeyedRow → Type 0 = λ r. AreWithinLebs a.holds kept r in
     let K : KeyedRow → Type 0 = λ r. KeepsPlaces row r in
     record {
-      shown = record { nodes = (own.0 ∙ sym tree, fanout ∙ own.1); kept = s.kept };
+      shown = record { nodes = (own.0 ∙ sym tree, fanout ∙ own.1, there own.2); kept = s.kept };
       there = stands.there;
       nodes = (commit_begun a kept index final frozen tree (record { settled = settled; seen = subst W own.0 stands.within }), subst K (own.0 ∙ sym frozen) (none row));
     }
@@ -101,8 +107,8 @@ begun_frozen none a kept self row index final is frozen tree fanout s stands set
 -- the index was loaded from the volume, and frozen
 pub loaded_running : ((row : KeyedRow) → KeepsPlaces row row) → (a b : VolumeState) (kept given : List ℕ) (begun : KeyedRow) (self : MountedIndex) (row : KeyedRow) (root : Branch) (loaded final : PagedIndex) (cache : NodeCache)
     → self.nodes ≡ OnMedium root → Keeps a b → ((placed : PlacedRow) → IsIndexOn a self.geometry.fanout root placed → keyed_tree_of loaded ≡ all_clean placed) → fanout_of final ≡ self.geometry.fanout
-    → frozen_of final ≡ keyed_tree_of loaded → keyed_tree_of final ≡ keyed_tree_of loaded → AreKept b.holds cache → SameShape a b → IsCommitRunning a kept given begun self row → IsCommitRunning b kept given begun (with_nodes self (InMemory final) cache) row
-loaded_running none a b kept given begun self row root loaded final cache is keeps loads fanout frozen tree clear shape h =
+    → frozen_of final ≡ keyed_tree_of loaded → keyed_tree_of final ≡ keyed_tree_of loaded → DoesIndexStand b final → AreKept b.holds cache → SameShape a b → IsCommitRunning a kept given begun self row → IsCommitRunning b kept given begun (with_nodes self (InMemory final) cache) row
+loaded_running none a b kept given begun self row root loaded final cache is keeps loads fanout frozen tree there clear shape h =
     let lebs : List ℕ = given ++ kept in
     let own = nodes_as a self.geometry.fanout row self.nodes (OnMedium root) is h.shown.nodes in
     let run = run_as a kept given begun row self.nodes (OnMedium root) is h.nodes in
@@ -119,40 +125,43 @@ loaded_running none a b kept given begun self row root loaded final cache is kee
       shared = λ others two out. let O : KeyedRow → Type 0 = λ r. AreOutside a.holds others r in subst O (whole ∙ sym seen) out;
     } in
     record {
-      shown = record { nodes = (sym (tree ∙ same), fanout); kept = clear };
+      shown = record { nodes = (sym (tree ∙ same), fanout, there); kept = clear };
       there = subst P (sym shape.leb_cnt) h.there;
       nodes = (commit_beside a b kept given final (WorksBeside-keeps a b lebs keeps) way, subst K (sym whole) (none begun));
     }
 
 -- changes were made beside what is shown
-pub staged_running : (b : VolumeState) (kept given : List ℕ) (begun : KeyedRow) (self : MountedIndex) (row : KeyedRow) (index new : PagedIndex) → self.nodes ≡ InMemory index → KeepsNodes index new → keyed_tree_of new ≡ keyed_tree_of index
-    → IsCommitRunning b kept given begun self row → IsCommitRunning b kept given begun (with_nodes self (InMemory new) self.cache) row
-staged_running b kept given begun self row index new is nodes tree h =
-    let own = nodes_as b self.geometry.fanout row self.nodes (InMemory index) is h.shown.nodes in
-    let run = run_as b kept given begun row self.nodes (InMemory index) is h.nodes in
+pub staged_running : (a b : VolumeState) (kept given : List ℕ) (begun : KeyedRow) (self : MountedIndex) (row : KeyedRow) (index new : PagedIndex) (cache : NodeCache) → self.nodes ≡ InMemory index → KeepsNodes index new
+    → keyed_tree_of new ≡ keyed_tree_of index → Keeps a b → SameShape a b → DoesIndexStand b new → AreKept b.holds cache → IsCommitRunning a kept given begun self row → IsCommitRunning b kept given begun (with_nodes self (InMemory new) cache) row
+staged_running a b kept given begun self row index new cache is nodes tree keeps shape there clear h =
+    let lebs : List ℕ = given ++ kept in
+    let own = nodes_as a self.geometry.fanout row self.nodes (InMemory index) is h.shown.nodes in
+    let was = run_as a kept given begun row self.nodes (InMemory index) is h.nodes in
+    let way = commit_beside a b kept given index (WorksBeside-keeps a b lebs keeps) was.0 in
+    let P : ℕ → Type 0 = λ n. (k : ℕ) → IsGiven lebs k → k < n in
     let K : KeyedRow → Type 0 = λ r. KeepsPlaces begun r in
     record {
-      shown = record { nodes = (own.0 ∙ sym tree, nodes.fanout ∙ own.1); kept = h.shown.kept };
-      there = h.there;
+      shown = record { nodes = (own.0 ∙ sym tree, nodes.fanout ∙ own.1, there); kept = clear };
+      there = subst P (sym shape.leb_cnt) h.there;
       nodes = (
-        index_changed b kept given index new (λ others out. let O : KeyedRow → Type 0 = λ r. AreOutside b.holds others r in subst O (sym tree) out) nodes.frozen_tree run.0,
-        subst K (sym nodes.frozen_tree) run.1,
+        index_changed b kept given index new (λ others out. let O : KeyedRow → Type 0 = λ r. AreOutside b.holds others r in subst O (sym tree) out) nodes.frozen_tree way,
+        subst K (sym nodes.frozen_tree) was.1,
       );
     }
 
 -- they are shown
 pub adopted_running : (b : VolumeState) (kept given : List ℕ) (begun : KeyedRow) (self : MountedIndex) (row made : KeyedRow) (index new : PagedIndex) (staged : Staged) → self.nodes ≡ InMemory index → KeepsNodes index new
-    → keyed_tree_of new ≡ tree_at index.table.nodes.items staged.root → IsCommitRunning b kept given begun self row → ShowsStaged b self staged made → KeepsOutside row made
+    → keyed_tree_of new ≡ tree_at index.table.nodes.items staged.root → (DoesRootStand b index.table.nodes.items staged.root → DoesIndexStand b new) → IsCommitRunning b kept given begun self row → ShowsStaged b self staged made → KeepsOutside row made
     → IsCommitRunning b kept given begun (with_nodes self (InMemory new) self.cache) made
-adopted_running b kept given begun self row made index new staged is nodes tree h s keeps =
+adopted_running b kept given begun self row made index new staged is nodes tree there h s keeps =
     let f = self.geometry.fanout in
     let own = nodes_as b f row self.nodes (InMemory index) is h.shown.nodes in
     let run = run_as b kept given begun row self.nodes (InMemory index) is h.nodes in
-    let beside = staged_as f made staged self.nodes (InMemory index) is s.nodes in
+    let beside = staged_as b f made staged self.nodes (InMemory index) is s.nodes in
     let to : keyed_tree_of new ≡ made = tree ∙ sym beside.0 in
     let K : KeyedRow → Type 0 = λ r. KeepsPlaces begun r in
     record {
-      shown = record { nodes = (sym to, nodes.fanout ∙ own.1); kept = h.shown.kept };
+      shown = record { nodes = (sym to, nodes.fanout ∙ own.1, there beside.3); kept = h.shown.kept };
       there = h.there;
       nodes = (
         index_changed b kept given index new (λ others out. let O : KeyedRow → Type 0 = λ r. AreOutside b.holds others r in subst O (sym to) (keeps b.holds others (subst O (sym own.0) out))) nodes.frozen_tree run.0,
@@ -160,8 +169,15 @@ adopted_running b kept given begun self row made index new staged is nodes tree 
       );
     }
 
+-- what was staged stands, once it is adopted
+pub adopted_stands : (b : VolumeState) (index new : PagedIndex) (staged : Staged) → new.table.nodes.items ≡ index.table.nodes.items → new.root ≡ staged.root → DoesRootStand b index.table.nodes.items staged.root → DoesIndexStand b new
+adopted_stands b index new staged items root h =
+    let D : List TableNode → Type 0 = λ xs. DoesRootStand b xs new.root in
+    let R : Option Root → Type 0 = λ r. DoesRootStand b index.table.nodes.items r in
+    subst D (sym items) (subst R (sym root) h)
+
 pub adopted_nowhere : (b : VolumeState) (self : MountedIndex) (made : KeyedRow) (staged : Staged) (root : Branch) → self.nodes ≡ OnMedium root → ShowsStaged b self staged made → ⊥
-adopted_nowhere b self made staged root is s = staged_as self.geometry.fanout made staged self.nodes (OnMedium root) is s.nodes
+adopted_nowhere b self made staged root is s = staged_as b self.geometry.fanout made staged self.nodes (OnMedium root) is s.nodes
 
 -- ---- a step
 pub never_alone : (nodes : IndexNodes) (root : Branch) → nodes ≡ OnMedium root → 0 < length (dirty_left nodes) → ⊥
@@ -227,14 +243,16 @@ stepped both geo a b lnum i j kept given begun self row index final cache result
     let own = nodes_as a self.geometry.fanout row self.nodes (InMemory index) is h.shown.nodes in
     let run = run_as a kept given begun row self.nodes (InMemory index) is h.nodes in
     let K : KeyedRow → Type 0 = λ r. KeepsPlaces r (keyed_tree_of final) in
-    let shown : Shows b (with_nodes self (InMemory final) cache) (keyed_tree_of final) = record { nodes = (refl, leb.taken.kept.roots.fanout ∙ own.1); kept = clear } in
+    let seen : StandsIn a (given ++ kept) (keyed_tree_of index) = record { there = h.there; within = run.0.seen } in
+    let here = written_stands a b (given ++ kept) (lnum ∷ []) index final shape (one_apart (given ++ kept) lnum apart) leb.works seen leb.taken.kept.unplaced leb.taken.kept.roots.root in
+    let shown : Shows b (with_nodes self (InMemory final) cache) (keyed_tree_of final) = record { nodes = (refl, leb.taken.kept.roots.fanout ∙ own.1, here); kept = clear } in
     record {
       now = keyed_tree_of final;
       places = subst K (sym own.0) leb.taken.kept.tree;
       shown = shown;
       running = step_running both geo a b lnum i j kept given begun self row index final cache result is shape there leb shown h apart;
       same = memory_more (IsIndexUntouched a b index final i j) (KeepsShown a b self (with_nodes self (InMemory final) cache)) result leb.same
-          (λ u. kept_shown a b self cache index final is clear (ap (λ (x : PagedIndex). x.table.nodes.items) u.index, ap (λ (x : PagedIndex). x.root) u.index) (ap fanout_of u.index));
+          (λ u. kept_shown a b self cache index final is clear (λ root s. root_moved a b index.table.nodes.items root u.volume shape s) (ap (λ (x : PagedIndex). x.table.nodes.items) u.index, ap (λ (x : PagedIndex). x.root) u.index) (ap fanout_of u.index));
       stands = λ fine.
           let standing = (leb.standing fine).0 in
           let S : Option Root → Type 0 = λ r. StandsIn b ((lnum ∷ []) ++ (given ++ kept)) (tree_at final.table.nodes.items r) in
@@ -254,7 +272,7 @@ step_refused none a lnum kept given begun self row index cache is there clear h 
       places = none row;
       shown = shown;
       running = (record { shown = shown; there = h.there; nodes = run }, refl);
-      same = kept_shown a a self cache index index is clear (refl, refl) refl;
+      same = kept_shown a a self cache index index is clear (λ root s. s) (refl, refl) refl;
       stands = λ fine. stands_more a (given ++ kept) (lnum ∷ []) row (there, (λ given. given), tt) (StandsIn-running a kept given begun self row h);
     }
 
@@ -402,10 +420,10 @@ let_go_shown a kept given begun self row index final root nodes is frozen fanout
 
 -- the nodes stay
 pub stay_shown : (a : VolumeState) (kept given : List ℕ) (begun : KeyedRow) (self : MountedIndex) (row : KeyedRow) (index final : PagedIndex) → self.nodes ≡ InMemory index → keyed_tree_of final ≡ keyed_tree_of index → fanout_of final ≡ fanout_of index
-    → IsCommitRunning a kept given begun self row → Shows a (with_nodes self (InMemory final) self.cache) row
-stay_shown a kept given begun self row index final is tree fanout h =
+    → DoesIndexStand a final → IsCommitRunning a kept given begun self row → Shows a (with_nodes self (InMemory final) self.cache) row
+stay_shown a kept given begun self row index final is tree fanout there h =
     let own = nodes_as a self.geometry.fanout row self.nodes (InMemory index) is h.shown.nodes in
-    record { nodes = (own.0 ∙ sym tree, fanout ∙ own.1); kept = h.shown.kept }
+    record { nodes = (own.0 ∙ sym tree, fanout ∙ own.1, there); kept = h.shown.kept }
 
 -- ---- keys, whatever the places
 before_kept : (most : Option ℕ) (row now : KeyedRow) → KeepsPlaces row now → key_before now most ≡ key_before row most
@@ -439,6 +457,22 @@ pub some_first : (found : Option DirtyNode) (numbers : List ℕ) (node : DirtyNo
 some_first found numbers node first is none =
     let there : Some node.node ≡ slice_get {X = ℕ} [] 0 = sym (ap (option_map (λ (d : DirtyNode). d.node)) is) ∙ first ∙ ap (λ (l : List ℕ). slice_get l 0) none in
     absurd cc
+
+no_length : (xs : List ℕ) → length xs ≡ 0 → xs ≡ []
+no_length [] e = refl
+no_length (x ∷ xs) e = absurd (omega (arith, e))
+
+-- an index from which clean nodes went has dirty ones if it had
+pub evicted_dirty : {T : Type 0} (r : Result T MemoryFault) (begun new : PagedIndex) → OnOk r (new.frozen ≡ new.root) → OnErr r ((new.table.nodes.items ≡ begun.table.nodes.items) × (new.root ≡ begun.root) × (new.frozen ≡ begun.frozen))
+    → keyed_tree_of new ≡ keyed_tree_of begun → begun.frozen ≡ begun.root → dirty_of new ≡ [] → dirty_of begun ≡ []
+evicted_dirty (Ok x) begun new frozen same tree all none =
+    let now = ap (λ (o : Option Root). length (dirty_below new.table.nodes.items o)) frozen ∙ counted_below new new.root new.there in
+    let was = ap (λ (o : Option Root). length (dirty_below begun.table.nodes.items o)) all ∙ counted_below begun begun.root begun.there in
+    let empty = ap length none in
+    let both = ap dirty_nodes_in tree in
+    no_length (dirty_of begun) (omega (arith, now, was, empty, both))
+evicted_dirty (Err e) begun new frozen same tree all none =
+    sym (ap (λ (items : List TableNode). dirty_below items new.frozen) same.0 ∙ ap (dirty_below begun.table.nodes.items) same.2) ∙ none
 
 pub dirty_there : (nodes : IndexNodes) (index : PagedIndex) → nodes ≡ InMemory index → dirty_left nodes ≡ [] → dirty_of index ≡ []
 dirty_there nodes index is none = let P : IndexNodes → Type 0 = λ n. dirty_left n ≡ [] in subst P is none

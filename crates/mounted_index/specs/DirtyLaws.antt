@@ -149,7 +149,7 @@ none_known : AreCounted [] []
 none_known i v is = absurd cc
 
 -- below a root as many nodes are dirty as the index there has dirty ones
-counted_below : (index : PagedIndex) (root : Option Root) → IsRootIn index.table.nodes.items root → length (dirty_below index.table.nodes.items root) ≡ dirty_nodes_in (tree_at index.table.nodes.items root)
+pub counted_below : (index : PagedIndex) (root : Option Root) → IsRootIn index.table.nodes.items root → length (dirty_below index.table.nodes.items root) ≡ dirty_nodes_in (tree_at index.table.nodes.items root)
 counted_below index None there = refl
 counted_below index (Some root) there =
     let nodes = index.table.nodes.items in

@@ -1,4 +1,4 @@
-// Changes, for which the index is loaded.
+// Changes, for which nodes on their ways are loaded.
 
 ghost use Rattle.std.specs.Prelude.{◌≡◌, ℕ, false, List, OnErr, OnOk};
 ghost use Rattle.index_media.specs.KeyedRow.{KeyedRow};
@@ -49,7 +49,7 @@ impl MountedIndex {
             IndexNodes::OnMedium(_) => Err(AreaFault::Memory),
             IndexNodes::InMemory(index) => {
                 index.trees_are_sound();
-                let staged = index.stage(alloc, changes)?;
+                let staged = index.stage(alloc, volume, &mut self.cache, changes)?;
                 Ok(staged)
             }
         }
@@ -93,7 +93,7 @@ impl MountedIndex {
         Ok(())
     }
 
-    // Loads the index, if it is on the volume alone. It is frozen then, since a commit of it may run.
+    // Takes the index into memory, if it is on the volume alone, with its root not loaded. It is frozen then, since a commit of it may run.
     fn load<V: Volume>(&mut self, alloc: Global, volume: &mut V) -> Result<(), AreaFault>
         requires shown { (row : KeyedRow) × Shows (V.state volume.old) self.old row }
         ensures shown { (row : KeyedRow) → Shows (V.state volume.old) self.old row → Shows (V.state volume.new) self.new row }
@@ -109,7 +109,6 @@ impl MountedIndex {
                 let mut index = PagedIndex::at_root(alloc, volume, &self.geometry, root)?;
                 index.freeze();
                 self.nodes = IndexNodes::InMemory(index);
-                self.cache.clear();
                 Ok(())
             }
             IndexNodes::InMemory(_) => Ok(()),

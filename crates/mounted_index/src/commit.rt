@@ -9,7 +9,7 @@ ghost use Rattle.node_table.specs.Dirty.{dirty_below};
 ghost use Rattle.node_table.specs.Placing.{KeepsPlaces};
 ghost use Rattle.ubi_volume.specs.Geometry.{IsGeometryOf};
 ghost use Rattle.ubi_volume.specs.Volume.{Keeps};
-ghost use Rattle.index_cache.specs.Paged.{fanout_of, keyed_tree_of};
+ghost use Rattle.index_cache.specs.Paged.{fanout_of, keyed_tree_of, DoesIndexStand};
 ghost use Rattle.index_commit.specs.Answers.{IsIndexAnswered, IsIndexNotFailed};
 ghost use Rattle.index_commit.specs.Lebs.{AreLebsApart, AreGivable};
 ghost use Rattle.index_commit.specs.Ordered.{AreKeysInOrder, IsNotEqualKeys};
@@ -106,6 +106,7 @@ fn write_seen<V: Volume>(
     requires number { sqnum.old < 2 ^ 63 }
     ensures at { IfOk result (IsWrittenAt (V.state volume.new) (raw_of geometry.now) lebs.now (sqnum.new - sqnum.old) (keyed_tree_of index.old) (keyed_tree_of index.new)) }
     ensures tree { KeepsPlaces (keyed_tree_of index.old) (keyed_tree_of index.new) }
+    ensures index { DoesIndexStand (V.state volume.new) index.new }
     ensures want { OnWant (Keeps (V.state volume.old) (V.state volume.new) × (keyed_tree_of index.new ≡ keyed_tree_of index.old) × (sqnum.new ≡ sqnum.old)) result }
     ensures same { OnWant ((index.new.table.nodes.items ≡ index.old.table.nodes.items) × (index.new.root ≡ index.old.root)) result }
     ensures stands { (kept : List ℕ) → StandsIn (V.state volume.old) kept (keyed_tree_of index.old) → AreLebsApart kept lebs.now → IsIndexNotFailed result → StandsIn (V.state volume.new) (lebs.now ++ kept) (keyed_tree_of index.new) }

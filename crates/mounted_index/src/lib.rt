@@ -1,7 +1,7 @@
 //! The index of a mounted volume, as one value: looked up, changed and committed.
 //!
 //! A mount takes it up by the branch of its root, and reads nothing. While nothing changes it is on the volume alone, with at most 256 of
-//! its nodes in memory. The first change loads it, and a commit writes what changed and lets all nodes go. `specs/Shown.antt` says which
+//! its nodes in memory. Changes load the nodes on their ways, and a commit writes what changed and lets nodes go. `specs/Shown.antt` says which
 //! index is shown, over a volume and from memory, and no clause says how much of it a change loads.
 #![tactic(auto)]
 

@@ -1,8 +1,9 @@
 // The index, on the volume alone or in memory.
 
-ghost use Rattle.std.specs.Prelude.{◌≡◌, ◌≤◌, true, IfOk};
+ghost use Rattle.std.specs.Prelude.{◌≡◌, ◌≢◌, ◌≤◌, ℕ, List, true, IfOk};
 ghost use Rattle.index_media.specs.KeyedRow.{KeyedRow, all_clean, no_more};
 ghost use Rattle.index_media.specs.PlacedRow.{PlacedRow};
+ghost use Rattle.node_cache.specs.Kept.{AreKept};
 ghost use Rattle.node_cache.specs.Loaded.{IsIndexOn};
 ghost use Rattle.index_cache.specs.declared.calls.Staged.{Staged as AStaged};
 ghost use Rattle.mounted_index.specs.Shown.{IsStagedRow, IsTakenUp, Shows, ShowsStaged, on_volume_alone};
@@ -14,7 +15,7 @@ use std::alloc::Global;
 use ubi_volume::Volume;
 use ubifs_base::{Geometry, Memory};
 
-/// Where the nodes of an index are: on the volume alone, from the branch of the root on, or all of them in memory.
+/// Where the nodes of an index are: on the volume alone, from the branch of the root on, or in memory, those that changes met.
 #[derive(Drop)]
 pub(crate) enum IndexNodes {
     OnMedium(Branch),
@@ -89,11 +90,25 @@ impl MountedIndex {
         self.cache.len()
     }
 
-    /// Lets the nodes go that look-ups keep. Whoever has written to LEBs of the volume in which no node of the index stands calls this
-    /// before the next look-up: what is kept might be of these LEBs.
+    /// Lets the nodes go that are kept of a LEB. Whoever has written to it, while no node of the index stands there, calls this before any
+    /// other call. Those of other LEBs stay.
+    pub fn forget<V: Volume>(&mut self, volume: &V, lnum: u32)
+        ensures shown { (before : ℕ → List ℕ) (row : KeyedRow) → ((k : ℕ) → k ≢ lnum → (V.state volume.now).holds k ≡ before k) → AreKept before self.old.cache
+            → IsTakenUp (V.state volume.now) self.old row → Shows (V.state volume.now) self.new row }
+        ensures staged { (before : ℕ → List ℕ) (staged : AStaged) (row : KeyedRow) → ((k : ℕ) → k ≢ lnum → (V.state volume.now).holds k ≡ before k) → AreKept before self.old.cache
+            → IsStagedRow (V.state volume.now) self.old.geometry.fanout row staged self.old.nodes → ShowsStaged (V.state volume.now) self.new staged row }
+        ensures geometry { self.new.geometry ≡ self.old.geometry }
+        ensures nodes { self.new.nodes ≡ self.old.nodes }
+    {
+        let _ = volume;
+        self.cache.forget(lnum);
+    }
+
+    /// Lets all nodes go that are kept of the volume. Whoever has written to LEBs in which no node of the index stands calls this before
+    /// any other call: what is kept might be of these LEBs.
     pub fn clear_cache<V: Volume>(&mut self, volume: &V)
         ensures shown { (row : KeyedRow) → IsTakenUp (V.state volume.now) self.old row → Shows (V.state volume.now) self.new row }
-        ensures staged { (staged : AStaged) (row : KeyedRow) → IsStagedRow self.old.geometry.fanout row staged self.old.nodes → ShowsStaged (V.state volume.now) self.new staged row }
+        ensures staged { (staged : AStaged) (row : KeyedRow) → IsStagedRow (V.state volume.now) self.old.geometry.fanout row staged self.old.nodes → ShowsStaged (V.state volume.now) self.new staged row }
         ensures geometry { self.new.geometry ≡ self.old.geometry }
         ensures nodes { self.new.nodes ≡ self.old.nodes }
         ensures alone { on_volume_alone self.new ≡ on_volume_alone self.old }

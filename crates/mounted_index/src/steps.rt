@@ -102,7 +102,7 @@ impl MountedIndex {
         match &mut self.nodes {
             IndexNodes::OnMedium(_) => Err(IndexFault::Memory),
             IndexNodes::InMemory(index) => {
-                self.cache.clear();
+                self.cache.forget(lnum);
                 index.trees_are_sound();
                 if index.dirty_nodes() > MOST_NODES {
                     return Err(IndexFault::Memory);
@@ -114,9 +114,11 @@ impl MountedIndex {
 
     /// Ends the commit that runs, which has no node left to write, and answers the root of what it wrote. An empty index has none. Linux has it as
     /// `root_lnum`, `root_offs` and `root_len` of `struct ubifs_mst_node`. Nothing is written. If no node of the index that is shown is dirty, all
-    /// nodes go, and what was staged. Other LEBs in which nodes stood are free once a master names this root.
+    /// nodes go, and else all clean ones, if there is memory for that. What was staged is of no use any more. Other LEBs in which nodes stood are free
+    /// once a master names this root.
     pub fn end_commit<V: Volume>(&mut self, alloc: Global, volume: &V) -> Option<Branch>
         requires none { dirty_left self.old.nodes ≡ [] }
+        requires running { (row : KeyedRow) × (begun : KeyedRow) × (kept : List ℕ) × (given : List ℕ) × IsCommitRunning (V.state volume.now) kept given begun self.old row }
         ensures ended { (row begun : KeyedRow) (kept given : List ℕ) → IsCommitRunning (V.state volume.now) kept given begun self.old row → IsCommitEnded (V.state volume.now) kept given begun row self.new result }
         ensures gone { dirty_left self.new.nodes ≡ [] → (root : Option ABranch) × HasNodesFrom self.old.geometry.fanout root self.new.nodes }
         ensures geometry { self.new.geometry ≡ self.old.geometry }
@@ -134,7 +136,9 @@ impl MountedIndex {
                     None => {
                         self.nodes = nodes_of(alloc, self.geometry.fanout, committed_root(index));
                     }
-                    Some(_) => (),
+                    Some(_) => {
+                        let _ = index.evict(alloc, volume);
+                    }
                 }
                 root
             }

@@ -24,3 +24,9 @@ pub returns-clause-committed : goal.returns-clause-committed
 returns-clause-committed g c = λ row kept s stands settled apart.
     let put = c.in_ok-found.ensures.put row row kept [] (c.begin_commit.ensures.begun row kept s stands settled) apart in
     (put.0, c.end_commit-root.ensures.ended put.0.now row kept put.0.since put.1)
+
+pub end_commit-root-requires-clause-running : goal.end_commit-root-requires-clause-running
+end_commit-root-requires-clause-running g c =
+    let own = c.requires.shown in
+    let put = c.in_ok-found.ensures.put own.0 own.0 own.1 [] (c.begin_commit.ensures.begun own.0 own.1 own.2 own.3 own.4) own.5 in
+    (put.0.now, own.0, own.1, put.0.since, put.1)

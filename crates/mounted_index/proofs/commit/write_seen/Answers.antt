@@ -1,4 +1,4 @@
-use Rattle.std.proofs.Common.{◌≡◌, ◌-◌, ◌+◌, ◌≤◌, ◌++◌, ℕ, List, length, true, arith, ap, sym, ◌∙◌, subst}
+use Rattle.std.proofs.Common.{◌≡◌, ◌-◌, ◌+◌, ◌≤◌, ◌++◌, ℕ, List, length, true, arith, refl, ap, sym, ◌∙◌, subst}
 use Rattle.std.specs.Int.{div_ceil}
 use Rattle.ubifs_base.specs.Geometry.{index_nodes_per_leb}
 use Rattle.ubifs_base.specs.RawOf.{raw_of}
@@ -15,7 +15,9 @@ use Rattle.node_table.specs.Placing.{KeepsPlaces}
 use Rattle.commit_steps.specs.UnderWayLaws.{outside_of}
 use Rattle.mounted_index.specs.Committed.{IsShortOf, IsWrittenAt}
 use Rattle.mounted_index.specs.Shown.{StandsIn}
-use Rattle.mounted_index.proofs.Committed.{frozen_dirty, if_ok_done, nodes_are, number_most, number_same, seen_at, seen_stands, short_of, some_nodes, stands_more, want_of}
+use Rattle.mounted_index.specs.ShownLaws.{StandsIn-index}
+use Rattle.table_nodes.specs.Stubs.{unplaced}
+use Rattle.mounted_index.proofs.Committed.{frozen_dirty, index_as, if_ok_done, nodes_are, number_most, number_same, seen_at, seen_stands, short_of, some_nodes, stands_more, want_of, written_stands}
 use Rattle.mounted_index.proofs.commit.write_seen.Goals as goal
 
 pub write_index-requires-clause-outside : goal.write_index-requires-clause-outside
@@ -53,6 +55,22 @@ pub returns-clause-tree : goal.returns-clause-tree
 returns-clause-tree g c =
     let K : KeyedRow → Type 0 = λ r. KeepsPlaces r (keyed_tree_of c.write_index.new.index) in
     subst K c.freeze.ensures.tree c.write_index.ensures.index.kept.tree
+
+pub returns-clause-index : goal.returns-clause-index
+returns-clause-index g c =
+    let a = g.V.Volume.state c.args.volume.now in
+    let b = g.V.Volume.state c.write_index.new.volume in
+    let own = c.requires.stands in
+    let kept = c.write_index.ensures.index.kept in
+    written_stands a b own.0 c.args.lebs.now c.args.index.now c.write_index.new.index c.write_index.ensures.answer.0.shape own.2 c.write_index.ensures.works.0 own.1 (kept.unplaced ∙ ap unplaced c.freeze.ensures.nodes)
+    (kept.roots.root ∙ c.freeze.ensures.seen)
+
+pub returns-then-dirty_nodes-gt-MOST_NODES-clause-index : goal.returns-then-dirty_nodes-gt-MOST_NODES-clause-index
+returns-then-dirty_nodes-gt-MOST_NODES-clause-index g c =
+    let a = g.V.Volume.state c.args.volume.now in
+    let old = c.args.index.now in
+    let own = c.requires.stands in
+    index_as a old c.freeze.new.self c.freeze.ensures.nodes c.freeze.ensures.seen (StandsIn-index a own.0 old (keyed_tree_of old) refl own.1)
 
 pub returns-clause-want : goal.returns-clause-want
 returns-clause-want g c =

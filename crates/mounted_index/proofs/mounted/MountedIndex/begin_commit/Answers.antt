@@ -1,6 +1,6 @@
 use Rattle.std.proofs.Common.{length, ap, sym, ◌∙◌}
 use Rattle.mounted_index.specs.Committed.{nodes_to_write}
-use Rattle.mounted_index.proofs.Committed.{frozen_dirty}
+use Rattle.mounted_index.proofs.Committed.{frozen_dirty, index_as}
 use Rattle.mounted_index.proofs.Running.{begun_alone, begun_frozen, frozen_shown, same_shown}
 use Rattle.mounted_index.proofs.mounted.MountedIndex.begin_commit.Goals as goal
 
@@ -12,7 +12,8 @@ returns-in-OnMedium-clause-kept g c = same_shown (g.V.Volume.state c.args.volume
 
 pub returns-in-InMemory-clause-begun : goal.returns-in-InMemory-clause-begun
 returns-in-InMemory-clause-begun g c = λ row kept s stands settled.
-    begun_frozen c.places_are_kept.ensures.none (g.V.Volume.state c.args.volume.now) kept c.args.self.now row c.in-InMemory.index c.freeze.new.self c.in-InMemory.is c.freeze.ensures.frozen c.freeze.ensures.tree c.freeze.ensures.fanout s stands settled
+    begun_frozen c.places_are_kept.ensures.none (g.V.Volume.state c.args.volume.now) kept c.args.self.now row c.in-InMemory.index c.freeze.new.self c.in-InMemory.is c.freeze.ensures.frozen c.freeze.ensures.tree c.freeze.ensures.fanout
+    (index_as (g.V.Volume.state c.args.volume.now) c.in-InMemory.index c.freeze.new.self c.freeze.ensures.nodes c.freeze.ensures.seen) s stands settled
 
 pub returns-in-InMemory-clause-nodes : goal.returns-in-InMemory-clause-nodes
 returns-in-InMemory-clause-nodes g c =

@@ -1,6 +1,7 @@
 use Rattle.std.proofs.Common.{ℕ, ◌+◌, ◌-◌, ◌≤◌, ◌∙◌, ap, sym, subst, refl}
 use Rattle.std.specs.Prelude.{IfOk, Result}
 use Rattle.ubifs_base.specs.RawOf.{raw_of}
+use Rattle.node_table.specs.UnloadedRoots.{root_moved}
 use Rattle.index_cache.specs.Paged.{keyed_tree_of}
 use Rattle.index_commit.specs.declared.index_at.IndexAt.{IndexAt}
 use Rattle.index_commit.specs.declared.index_fault.IndexFault.{IndexFault}
@@ -8,7 +9,7 @@ use Rattle.mounted_index.specs.Committed.{IsWrittenAt, OnWant, nodes_to_write}
 use Rattle.mounted_index.specs.Shown.{KeepsShown}
 use Rattle.mounted_index.specs.declared.mounted.IndexNodes.TheVariants.{InMemory, OnMedium}
 use Rattle.mounted_index.specs.declared.mounted.MountedIndex.{MountedIndex}
-use Rattle.mounted_index.proofs.Committed.{commit_clean, commit_seen, kept_shown, nodes_let_go, want_more}
+use Rattle.mounted_index.proofs.Committed.{commit_clean, commit_seen, kept_shown, nodes_let_go, want_both, want_more}
 use Rattle.mounted_index.proofs.Shown.{nodes_as}
 use Rattle.mounted_index.proofs.mounted.MountedIndex.commit.Goals as goal
 
@@ -51,8 +52,9 @@ returns-in_default-clause-committed g c = λ row kept h.
     let own = nodes_as a f row self.nodes (InMemory index) c.in-InMemory.is h.shown.nodes in
     commit_seen a b c.args.lebs.now kept c.args.sqnum.now c.write_seen-written.new.sqnum self after row index final c.write_seen-written.result c.in-InMemory.is h
     (record { places = w.tree; at = w.at; untouched = w.want; full = w.full; stands = λ s two fine. w.stands kept s two fine; order = w.order })
-    (record { nodes = (refl, w.fanout ∙ own.1); kept = c.clear.ensures.kept b.holds })
-    (want_more _ (KeepsShown a b self after) c.write_seen-written.result w.same (λ same. kept_shown a b self c.clear.new.self index final c.in-InMemory.is (c.clear.ensures.kept b.holds) same w.fanout))
+    (record { nodes = (refl, w.fanout ∙ own.1, w.index); kept = c.clear.ensures.kept b.holds })
+    (want_more _ (KeepsShown a b self after) c.write_seen-written.result (want_both _ _ c.write_seen-written.result w.want w.same)
+    (λ both. kept_shown a b self c.clear.new.self index final c.in-InMemory.is (c.clear.ensures.kept b.holds) (λ root s. root_moved a b index.table.nodes.items root both.0.0 w.answer.shape s) both.1 w.fanout))
 
 pub returns-in-Ok-clause-number : goal.returns-in-Ok-clause-number
 returns-in-Ok-clause-number g c =

@@ -1,8 +1,8 @@
-use Rattle.std.proofs.Common.{◌≡◌, refl}
+use Rattle.std.proofs.Common.{◌≡◌}
 use Rattle.std.specs.Prelude.{IfOk, slice_get}
 use Rattle.index_tree.specs.Order.{key_rank, of_rank}
 use Rattle.index_tree.specs.Shape.{Shape, contents}
-use Rattle.mounted_index.proofs.Shown.{index_stands, nodes_moved, of_medium}
+use Rattle.mounted_index.proofs.Shown.{index_stands, looked_shown, of_medium}
 use Rattle.mounted_index.proofs.mounted.MountedIndex.find.Goals as goal
 
 pub returns-in-OnMedium-clause-found : goal.returns-in-OnMedium-clause-found
@@ -13,16 +13,13 @@ returns-in-OnMedium-clause-found g c = λ row shown.
 
 pub returns-in-OnMedium-clause-kept : goal.returns-in-OnMedium-clause-kept
 returns-in-OnMedium-clause-kept g c =
-    let a = g.V.Volume.state c.args.volume.now in
-    let b = g.V.Volume.state c.find.new.volume in
-    let f = c.args.self.now.geometry.fanout in
-    let nodes = c.args.self.now.nodes in
-    record {
-      shown = λ row h. record { nodes = nodes_moved a b f row nodes c.find.ensures.reads.keeps c.find.ensures.reads.shape h.nodes; kept = c.find.ensures.kept };
-      staged = λ staged row h. record { nodes = h.nodes; kept = c.find.ensures.kept };
-      alone = refl;
-      geometry = refl;
-    }
+    let reads = c.find.ensures.reads in
+    looked_shown (g.V.Volume.state c.args.volume.now) (g.V.Volume.state c.find.new.volume) c.args.self.now c.find.new.self reads.keeps reads.shape (λ kept. c.find.ensures.kept)
+
+pub returns-in-InMemory-clause-kept : goal.returns-in-InMemory-clause-kept
+returns-in-InMemory-clause-kept g c =
+    let reads = c.find-in-InMemory.ensures.reads in
+    looked_shown (g.V.Volume.state c.args.volume.now) (g.V.Volume.state c.find-in-InMemory.new.volume) c.args.self.now c.find-in-InMemory.new.cache reads.keeps reads.shape (λ kept. c.find-in-InMemory.ensures.kept)
 
 pub find-requires-in-InMemory-clause-stands : goal.find-requires-in-InMemory-clause-stands
-find-requires-in-InMemory-clause-stands g c = index_stands (g.V.Volume.state c.args.volume.now) c.in-InMemory.index
+find-requires-in-InMemory-clause-stands g c = let own = c.requires.shown in index_stands (g.V.Volume.state c.args.volume.now) c.args.self.now own.0 c.in-InMemory.index c.in-InMemory.is own.1

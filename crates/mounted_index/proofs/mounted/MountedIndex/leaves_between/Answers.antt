@@ -1,9 +1,9 @@
-use Rattle.std.proofs.Common.{◌≡◌, refl}
+use Rattle.std.proofs.Common.{◌≡◌}
 use Rattle.std.specs.Prelude.{IfOk}
 use Rattle.index_tree.specs.Order.{key_rank}
 use Rattle.index_tree.specs.RangeRemoval.{within_range}
 use Rattle.index_tree.specs.Shape.{Shape, contents}
-use Rattle.mounted_index.proofs.Shown.{index_stands, nodes_moved, of_medium}
+use Rattle.mounted_index.proofs.Shown.{index_stands, looked_shown, of_medium}
 use Rattle.mounted_index.proofs.mounted.MountedIndex.leaves_between.Goals as goal
 
 pub returns-in-OnMedium-clause-leaves : goal.returns-in-OnMedium-clause-leaves
@@ -14,16 +14,13 @@ returns-in-OnMedium-clause-leaves g c = λ row shown.
 
 pub returns-in-OnMedium-clause-kept : goal.returns-in-OnMedium-clause-kept
 returns-in-OnMedium-clause-kept g c =
-    let a = g.V.Volume.state c.args.volume.now in
-    let b = g.V.Volume.state c.leaves_between.new.volume in
-    let f = c.args.self.now.geometry.fanout in
-    let nodes = c.args.self.now.nodes in
-    record {
-      shown = λ row h. record { nodes = nodes_moved a b f row nodes c.leaves_between.ensures.reads.keeps c.leaves_between.ensures.reads.shape h.nodes; kept = c.leaves_between.ensures.kept };
-      staged = λ staged row h. record { nodes = h.nodes; kept = c.leaves_between.ensures.kept };
-      alone = refl;
-      geometry = refl;
-    }
+    let reads = c.leaves_between.ensures.reads in
+    looked_shown (g.V.Volume.state c.args.volume.now) (g.V.Volume.state c.leaves_between.new.volume) c.args.self.now c.leaves_between.new.self reads.keeps reads.shape (λ kept. c.leaves_between.ensures.kept)
+
+pub returns-in-InMemory-clause-kept : goal.returns-in-InMemory-clause-kept
+returns-in-InMemory-clause-kept g c =
+    let reads = c.leaves_between-in-InMemory.ensures.reads in
+    looked_shown (g.V.Volume.state c.args.volume.now) (g.V.Volume.state c.leaves_between-in-InMemory.new.volume) c.args.self.now c.leaves_between-in-InMemory.new.cache reads.keeps reads.shape (λ kept. c.leaves_between-in-InMemory.ensures.kept)
 
 pub leaves_between-requires-in-InMemory-clause-stands : goal.leaves_between-requires-in-InMemory-clause-stands
-leaves_between-requires-in-InMemory-clause-stands g c = index_stands (g.V.Volume.state c.args.volume.now) c.in-InMemory.index
+leaves_between-requires-in-InMemory-clause-stands g c = let own = c.requires.shown in index_stands (g.V.Volume.state c.args.volume.now) c.args.self.now own.0 c.in-InMemory.index c.in-InMemory.is own.1

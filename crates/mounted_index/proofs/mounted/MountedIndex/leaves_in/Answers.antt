@@ -1,7 +1,7 @@
-use Rattle.std.proofs.Common.{◌≡◌, refl}
+use Rattle.std.proofs.Common.{◌≡◌}
 use Rattle.std.specs.Prelude.{◌==◌, IfOk, filter}
 use Rattle.index_tree.specs.Shape.{Shape, contents}
-use Rattle.mounted_index.proofs.Shown.{index_stands, nodes_moved, of_medium}
+use Rattle.mounted_index.proofs.Shown.{index_stands, looked_shown, of_medium}
 use Rattle.mounted_index.proofs.mounted.MountedIndex.leaves_in.Goals as goal
 
 pub returns-in-OnMedium-clause-leaves : goal.returns-in-OnMedium-clause-leaves
@@ -12,16 +12,13 @@ returns-in-OnMedium-clause-leaves g c = λ row shown.
 
 pub returns-in-OnMedium-clause-kept : goal.returns-in-OnMedium-clause-kept
 returns-in-OnMedium-clause-kept g c =
-    let a = g.V.Volume.state c.args.volume.now in
-    let b = g.V.Volume.state c.leaves_in.new.volume in
-    let f = c.args.self.now.geometry.fanout in
-    let nodes = c.args.self.now.nodes in
-    record {
-      shown = λ row h. record { nodes = nodes_moved a b f row nodes c.leaves_in.ensures.reads.keeps c.leaves_in.ensures.reads.shape h.nodes; kept = c.leaves_in.ensures.kept };
-      staged = λ staged row h. record { nodes = h.nodes; kept = c.leaves_in.ensures.kept };
-      alone = refl;
-      geometry = refl;
-    }
+    let reads = c.leaves_in.ensures.reads in
+    looked_shown (g.V.Volume.state c.args.volume.now) (g.V.Volume.state c.leaves_in.new.volume) c.args.self.now c.leaves_in.new.self reads.keeps reads.shape (λ kept. c.leaves_in.ensures.kept)
+
+pub returns-in-InMemory-clause-kept : goal.returns-in-InMemory-clause-kept
+returns-in-InMemory-clause-kept g c =
+    let reads = c.leaves_in-in-InMemory.ensures.reads in
+    looked_shown (g.V.Volume.state c.args.volume.now) (g.V.Volume.state c.leaves_in-in-InMemory.new.volume) c.args.self.now c.leaves_in-in-InMemory.new.cache reads.keeps reads.shape (λ kept. c.leaves_in-in-InMemory.ensures.kept)
 
 pub leaves_in-requires-in-InMemory-clause-stands : goal.leaves_in-requires-in-InMemory-clause-stands
-leaves_in-requires-in-InMemory-clause-stands g c = index_stands (g.V.Volume.state c.args.volume.now) c.in-InMemory.index
+leaves_in-requires-in-InMemory-clause-stands g c = let own = c.requires.shown in index_stands (g.V.Volume.state c.args.volume.now) c.args.self.now own.0 c.in-InMemory.index c.in-InMemory.is own.1

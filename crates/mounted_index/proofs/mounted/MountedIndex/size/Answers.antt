@@ -1,7 +1,6 @@
-use Rattle.std.proofs.Common.{refl}
 use Rattle.index_tree.specs.Shape.{Shape}
 use Rattle.mounted_index.specs.Sizes.{IsSizeOf}
-use Rattle.mounted_index.proofs.Shown.{index_stands, nodes_moved, of_medium}
+use Rattle.mounted_index.proofs.Shown.{index_stands, looked_shown, of_medium}
 use Rattle.mounted_index.proofs.mounted.MountedIndex.size.Goals as goal
 
 pub returns-in_err-size-in-OnMedium-clause-kept : goal.returns-in_err-size-in-OnMedium-clause-kept
@@ -9,14 +8,8 @@ returns-in_err-size-in-OnMedium-clause-kept g c =
     let a = g.V.Volume.state c.args.volume.now in
     let b = g.V.Volume.state c.size_from.new.volume in
     let self = c.args.self.now in
-    let keeps = c.size_from.ensures.reads.keeps in
-    let kept = c.kept_nodes_stay.ensures a.holds b.holds self.cache (λ place node there. keeps.holds place.0) in
-    record {
-      shown = λ row h. record { nodes = nodes_moved a b self.geometry.fanout row self.nodes keeps c.size_from.ensures.reads.shape h.nodes; kept = kept h.kept };
-      staged = λ staged row h. record { nodes = h.nodes; kept = kept h.kept };
-      alone = refl;
-      geometry = refl;
-    }
+    let reads = c.size_from.ensures.reads in
+    looked_shown a b self self.cache reads.keeps reads.shape (c.kept_nodes_stay.ensures a.holds b.holds self.cache (λ place node there. reads.keeps.holds place.0))
 
 pub returns-in_ok-size-in-OnMedium-clause-size : goal.returns-in_ok-size-in-OnMedium-clause-size
 returns-in_ok-size-in-OnMedium-clause-size g c = λ row shown.
@@ -30,42 +23,24 @@ returns-in_ok-size-in-OnMedium-clause-kept g c =
     let a = g.V.Volume.state c.args.volume.now in
     let b = g.V.Volume.state c.size_from.new.volume in
     let self = c.args.self.now in
-    let keeps = c.size_from.ensures.reads.keeps in
-    let kept = c.kept_nodes_stay.ensures a.holds b.holds self.cache (λ place node there. keeps.holds place.0) in
-    record {
-      shown = λ row h. record { nodes = nodes_moved a b self.geometry.fanout row self.nodes keeps c.size_from.ensures.reads.shape h.nodes; kept = kept h.kept };
-      staged = λ staged row h. record { nodes = h.nodes; kept = kept h.kept };
-      alone = refl;
-      geometry = refl;
-    }
+    let reads = c.size_from.ensures.reads in
+    looked_shown a b self self.cache reads.keeps reads.shape (c.kept_nodes_stay.ensures a.holds b.holds self.cache (λ place node there. reads.keeps.holds place.0))
 
 pub size-requires : goal.size-requires
-size-requires g c = record { stands = index_stands (g.V.Volume.state c.args.volume.now) c.in-InMemory.index }
+size-requires g c = let own = c.requires.shown in record { stands = index_stands (g.V.Volume.state c.args.volume.now) c.args.self.now own.0 c.in-InMemory.index c.in-InMemory.is own.1 }
 
 pub returns-in_err-size-in-InMemory-clause-kept : goal.returns-in_err-size-in-InMemory-clause-kept
 returns-in_err-size-in-InMemory-clause-kept g c =
     let a = g.V.Volume.state c.args.volume.now in
     let b = g.V.Volume.state c.size.new.volume in
     let self = c.args.self.now in
-    let keeps = c.size.ensures.reads.keeps in
-    let kept = c.kept_nodes_stay.ensures a.holds b.holds self.cache (λ place node there. keeps.holds place.0) in
-    record {
-      shown = λ row h. record { nodes = nodes_moved a b self.geometry.fanout row self.nodes keeps c.size.ensures.reads.shape h.nodes; kept = kept h.kept };
-      staged = λ staged row h. record { nodes = h.nodes; kept = kept h.kept };
-      alone = refl;
-      geometry = refl;
-    }
+    let reads = c.size.ensures.reads in
+    looked_shown a b self self.cache reads.keeps reads.shape (c.kept_nodes_stay.ensures a.holds b.holds self.cache (λ place node there. reads.keeps.holds place.0))
 
 pub returns-in_ok-size-in-InMemory-clause-kept : goal.returns-in_ok-size-in-InMemory-clause-kept
 returns-in_ok-size-in-InMemory-clause-kept g c =
     let a = g.V.Volume.state c.args.volume.now in
     let b = g.V.Volume.state c.size.new.volume in
     let self = c.args.self.now in
-    let keeps = c.size.ensures.reads.keeps in
-    let kept = c.kept_nodes_stay.ensures a.holds b.holds self.cache (λ place node there. keeps.holds place.0) in
-    record {
-      shown = λ row h. record { nodes = nodes_moved a b self.geometry.fanout row self.nodes keeps c.size.ensures.reads.shape h.nodes; kept = kept h.kept };
-      staged = λ staged row h. record { nodes = h.nodes; kept = kept h.kept };
-      alone = refl;
-      geometry = refl;
-    }
+    let reads = c.size.ensures.reads in
+    looked_shown a b self self.cache reads.keeps reads.shape (c.kept_nodes_stay.ensures a.holds b.holds self.cache (λ place node there. reads.keeps.holds place.0))
