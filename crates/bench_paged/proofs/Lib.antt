@@ -1,1 +1,2 @@
+pub mod OnVolume
 pub mod Standing

@@ -1,1 +1,2 @@
 pub mod Dirty
+pub mod OnVolume

@@ -1,12 +1,16 @@
 //! Times the look-ups of an index that is in memory. Without a word it prints the sum of the places that a thousand finds answer, of a thousand
 //! leaves. With `paged` or `index` it puts a million leaves, with keys in random order, into a `PagedIndex` or an `Index` of fanout 8. Then it
-//! finds each again, and prints that sum and the nanoseconds that the finds took.
+//! finds each again, and prints that sum and the nanoseconds that the finds took. With `volume` the million leaves come in the order of their
+//! keys, and stand on a volume, in memory too; a million finds in random order keep at most 256 nodes.
 #![tactic(auto)]
 
 ghost use Rattle.node_cache.specs.Kept.{AreKept};
 ghost use Rattle.ubifs_base.specs.Key.{IsKey};
 ghost use Rattle.bench_paged.specs.Dirty.{AreAllDirty};
 
+mod volume;
+
+use crate::volume::in_volume;
 use index_cache::PagedIndex;
 use index_commit::changes_keep_what_stands;
 use index_tree::{Index, Leaf};
@@ -24,7 +28,7 @@ const MANY: u32 = 1_000_000;
 const FEW: u32 = 1000;
 
 /// The fanout that `mkfs.ubifs` takes.
-const FANOUT: u32 = 8;
+pub(crate) const FANOUT: u32 = 8;
 
 /// How many leaves are put between two evictions.
 const TURN: u32 = 10_000;
@@ -44,10 +48,10 @@ fn main(rt: HostRuntime) -> anyhow::Result<()> {
         println!(rt; "{sum}")?;
         return Ok(());
     };
-    let (sum, nanoseconds) = if word.as_str() == "index" {
-        in_index(&rt, MANY)?
-    } else {
-        in_paged(&rt, MANY)?
+    let (sum, nanoseconds) = match word.as_str() {
+        "index" => in_index(&rt, MANY)?,
+        "volume" => in_volume(&rt, MANY)?,
+        _ => in_paged(&rt, MANY)?,
     };
     println!(rt; "{sum} {nanoseconds}")?;
     Ok(())
@@ -162,7 +166,7 @@ fn leaf(i: u32) -> Leaf
 }
 
 // A number for each number, no two the same, in an order that looks random.
-fn mixed(i: u32) -> u32 {
+pub(crate) fn mixed(i: u32) -> u32 {
     let x = (i ^ (i >> 16)).wrapping_mul(0x7feb_352d);
     let x = (x ^ (x >> 15)).wrapping_mul(0x846c_a68b);
     x ^ (x >> 16)
