@@ -269,7 +269,8 @@ impl PagedIndex {
 
     /// Takes out the leaves with keys from `from` to `to`, both included, with the nodes that this empties, and answers how
     /// many leaves went: `u64::MAX` stands for more as well. Nodes on the ways to them are dirty, and all others keep their
-    /// places. A root with one child gives way to it, even if no leaf went. The nodes of the whole range are read, to count.
+    /// places. A root with one child gives way to it, even if no leaf went. The nodes of the whole range are read, to count, and none of those is
+    /// kept below which no leaf is left.
     pub fn remove_range<V: Volume>(
         &mut self,
         alloc: Global,

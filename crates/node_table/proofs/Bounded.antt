@@ -122,7 +122,7 @@ pub among_none : (known : List (List ℕ)) (links : List Link) → length links 
 among_none known [] none = omega arith
 among_none known (link ∷ links) none = absurd (omega (arith, none))
 
-among_first : (known : List (List ℕ)) (link : Link) (rest : List Link) → dirty_among known (link ∷ rest) ≡ dirty_among known (link ∷ []) ++ dirty_among known rest
+pub among_first : (known : List (List ℕ)) (link : Link) (rest : List Link) → dirty_among known (link ∷ rest) ≡ dirty_among known (link ∷ []) ++ dirty_among known rest
 among_first known (ToLeaf x) rest = refl
 among_first known (ToNode key number) rest = ap (λ (v : List ℕ). v ++ dirty_among known rest) (sym (append-nil (unwrap_or (slice_get known number) [])))
 

@@ -25,3 +25,4 @@ pub mod PlacedTable
 pub mod KeptPlaces
 pub mod StubAdded
 pub mod CopiedNodes
+pub mod CopiedNumbers

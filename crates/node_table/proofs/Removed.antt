@@ -11,7 +11,7 @@ use Rattle.index_media.specs.KeyedKeys.{AreKeysBounded}
 use Rattle.index_media.specs.KeyedRemoval.{removed_by_keys, keyed_collapsed, without_leaf_by_keys, replaced_by_keys}
 use Rattle.index_media.specs.KeyedRow.{KeyedRow, no_more, bare}
 use Rattle.node_table.specs.Exchange.{exchanged_row, exchanged_node, tree_without}
-use Rattle.table_nodes.specs.NodeView.{NodeView, node_before, row_of, node_views, children_in, tree_at, IsRootIn}
+use Rattle.table_nodes.specs.NodeView.{NodeView, node_before, row_of, node_views, children_in, tree_at, leaves_at, IsRootIn}
 use Rattle.table_nodes.specs.NodeViewLaws.{sound_at, children_fit}
 use Rattle.table_nodes.specs.Sound.{AreSoundViews}
 use Rattle.table_nodes.specs.Links.{row_before, AreLinksIn, AreNodesAdded}
@@ -169,3 +169,13 @@ without_sound z row b k c l = elim (cases_Bool (holds z (contents (bare row)))) 
   | inl e ↦ rw e (c, l)
   | inr e ↦ rw e (b, k)
 ]
+
+-- a leaf that stands below the topmost node stands below the root
+pub held_there : (nodes : List TableNode) (root : Option Root) (top : Root) (leaf : Leaf) → root ≡ Some top → holds leaf (contents (bare (children_in (slice_get (node_views nodes) top.number)))) ≡ true
+    → holds leaf (leaves_at nodes root) ≡ false → ⊥
+held_there nodes root top leaf is held none =
+    let own = contents (bare (children_in (slice_get (node_views nodes) top.number))) in
+    let whole = node_apart top.key (slice_get (node_views nodes) top.number) no_more ∙ append-nil own in
+    let R : Option Root → Type 0 = λ r. holds leaf (leaves_at nodes r) ≡ false in
+    let no : true ≡ false = sym (ap (holds leaf) whole ∙ held) ∙ subst R is none in
+    cc

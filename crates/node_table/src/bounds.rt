@@ -1,7 +1,10 @@
 // At most how many dirty nodes stand at each node and below it: a number beside each node, which is summed as nodes are added.
 
-ghost use Rattle.std.specs.Prelude.{◌≡◌, ◌≤◌, ◌+◌, ◌++◌, ◌∷◌, [], ℕ, IfOk, IfSome, IfNone, Some, if◌then◌else◌, is_ok, length, slice_get, take};
+ghost use Rattle.std.specs.Prelude.{◌≡◌, ◌≤◌, ◌+◌, ◌++◌, ◌∷◌, [], ℕ, List, IfOk, IfSome, IfNone, Some, if◌then◌else◌, is_ok, length, slice_get, take};
 ghost use Rattle.node_table.specs.Dirty.{dirty_node, dirty_lists, dirty_among, dirty_from, dirty_below};
+ghost use Rattle.node_table.specs.declared.table.NodeTable.{NodeTable as ATable};
+ghost use Rattle.table_nodes.specs.Links.{AreNodesAdded};
+ghost use Rattle.table_nodes.specs.declared.node.TableNode.{TableNode as ANode};
 
 use crate::table::NodeTable;
 use table_nodes::{Link, Root, TableNode};
@@ -34,7 +37,7 @@ pub fn push_both(
 }
 
 /// Keeps the first nodes, and their bounds.
-pub fn truncate_both(nodes: &mut Vec<TableNode>, most_dirty: &mut Vec<u64>, number: usize)
+fn truncate_both(nodes: &mut Vec<TableNode>, most_dirty: &mut Vec<u64>, number: usize)
     ensures nodes { nodes.new.items ≡ take number nodes.old.items }
     ensures most_dirty { most_dirty.new.items ≡ take number most_dirty.old.items }
 {
@@ -43,6 +46,15 @@ pub fn truncate_both(nodes: &mut Vec<TableNode>, most_dirty: &mut Vec<u64>, numb
 }
 
 impl NodeTable {
+    /// Lets the nodes go that were added since there were so many.
+    pub(crate) fn take_back(&mut self, number: usize)
+        requires before { (before : ATable) × AreNodesAdded before.nodes.items self.old.nodes.items × (before.fanout ≡ self.old.fanout) × (number ≡ length before.nodes.items) }
+        ensures nodes { (before : List ANode) → AreNodesAdded before self.old.nodes.items → number ≡ length before → self.new.nodes.items ≡ before }
+        ensures fanout { self.new.fanout ≡ self.old.fanout }
+    {
+        truncate_both(&mut self.nodes, &mut self.most_dirty, number);
+    }
+
     /// The bound of the node of this number; none where there is no such node.
     fn bound_at(&self, number: u64) -> Option<&u64>
         ensures some { IfSome result (λ most. slice_get self.now.most_dirty.items number ≡ Some most.now) }

@@ -1,8 +1,9 @@
 // A table is made anew of what is below a root: of dirty nodes, and of the clean ones to which they lead, which aren't loaded.
 
-ghost use Rattle.std.specs.Prelude.{◌≡◌, ◌<◌, ◌∷◌, [], true, IfOk, OnOk, length, slice_get};
+ghost use Rattle.std.specs.Prelude.{◌≡◌, ◌<◌, ◌≤◌, ◌+◌, ◌*◌, ◌∷◌, [], true, IfOk, OnOk, length, slice_get};
 ghost use Rattle.index_media.specs.KeyedRow.{KeyedRow, no_more};
 ghost use Rattle.node_cache.specs.OnVolume.{IsOnVolume};
+ghost use Rattle.node_table.specs.Dirty.{dirty_among, dirty_below, dirty_from, dirty_lists};
 ghost use Rattle.node_table.specs.Staging.{IsSoundRoot};
 ghost use Rattle.node_table.specs.Unloaded.{are_unloaded_if_clean, AreStandingLinks, DoesRootStand};
 ghost use Rattle.table_nodes.specs.Beyond.{branch_at_place};
@@ -40,7 +41,7 @@ fn branch_to_place(place: &NodePlace) -> Branch
 impl NodeTable {
     /// Adds a node of this table to another one, and answers its number there. A dirty one leads there to what is below it, added before it. A clean
     /// one isn't loaded.
-    #[cycle(copying)]
+    #[cycle(compacting)]
     fn copy_below<V: Volume>(
         &self,
         alloc: Global,
@@ -55,6 +56,7 @@ impl NodeTable {
         ensures there { IfOk result (λ copy. (key : AKey) → AreStandingLinks (V.state volume.now) made.new.nodes.items (ToNode key copy ∷ [])) }
         ensures added { AreNodesAdded made.old.nodes.items made.new.nodes.items }
         ensures clean { are_unloaded_if_clean made.new.nodes.items ≡ true }
+        ensures few { OnOk result (length made.new.nodes.items ≤ length made.old.nodes.items + self.now.fanout * length (dirty_from self.now.nodes.items number) + 1) }
         ensures fanout { made.new.fanout ≡ made.old.fanout }
     {
         match self.node_at(number) {
@@ -85,7 +87,7 @@ impl NodeTable {
     }
 
     /// The same of what these links lead to, and pushes links to it.
-    #[cycle(copying)]
+    #[cycle(compacting)]
     fn copy_among<V: Volume>(
         &self,
         alloc: Global,
@@ -103,6 +105,7 @@ impl NodeTable {
         ensures there { OnOk result (AreStandingLinks (V.state volume.now) made.new.nodes.items copies.new.items) }
         ensures added { AreNodesAdded made.old.nodes.items made.new.nodes.items }
         ensures clean { are_unloaded_if_clean made.new.nodes.items ≡ true }
+        ensures few { OnOk result (length made.new.nodes.items ≤ length made.old.nodes.items + self.now.fanout * length (dirty_among (dirty_lists self.now.nodes.items) links.now) + length links.now) }
         ensures fanout { made.new.fanout ≡ made.old.fanout }
     {
         match links.split_first() {
@@ -120,8 +123,9 @@ impl NodeTable {
         }
     }
 
-    /// Makes a table anew of what is below a root. Its dirty nodes are there, and the clean ones to which they lead, not loaded. No other node is.
-    /// It shows the same, with the same places. Nothing is read. It asks that all clean nodes below the root stand on the volume.
+    /// Makes a table anew of what is below a root. Its dirty nodes are there, and the clean ones to which they lead, not loaded. No other node is:
+    /// there are no more than one and the fanout for each dirty one. It shows the same, with the same places. Nothing is read. It asks that all
+    /// clean nodes below the root stand on the volume.
     pub fn without_clean<V: Volume>(
         &self,
         alloc: Global,
@@ -134,6 +138,7 @@ impl NodeTable {
         ensures root { IfOk result (λ made. IsSoundRoot made.table.nodes.items made.root) }
         ensures stands { IfOk result (λ made. DoesRootStand (V.state volume.now) made.table.nodes.items made.root) }
         ensures clean { IfOk result (λ made. are_unloaded_if_clean made.table.nodes.items ≡ true) }
+        ensures few { IfOk result (λ made. length made.table.nodes.items ≤ self.now.fanout * length (dirty_below self.now.nodes.items root) + 1) }
         ensures fanout { IfOk result (λ made. made.table.fanout ≡ self.now.fanout) }
     {
         let mut table = NodeTable::new(alloc, self.fanout);

@@ -1,6 +1,6 @@
 // A leaf gives way to another of its key, or to none: this adds the nodes of one path.
 
-ghost use Rattle.std.specs.Prelude.{◌≡◌, ◌<◌, ◌++◌, ℕ, true, IfOk, OnOk, Option, None, Some, length, slice_get};
+ghost use Rattle.std.specs.Prelude.{◌≡◌, ◌<◌, ◌++◌, ℕ, true, false, IfOk, OnOk, Option, None, Some, length, slice_get};
 ghost use Rattle.index_tree.specs.Removal.{holds};
 ghost use Rattle.index_tree.specs.Shape.{contents, count, fits};
 ghost use Rattle.index_tree.specs.declared.leaf.Leaf.{Leaf as ALeaf};
@@ -53,7 +53,7 @@ fn push_leaf(come: Option<Leaf>, made: &mut Vec<Link>) -> Result<(), AllocError>
 
 impl NodeTable {
     /// Adds the nodes of one path below a node, where a leaf gives way, and pushes a link to what stands for the node, if it has
-    /// children left. False where the leaf isn't there: the node's own link is pushed.
+    /// children left. False where the leaf isn't there: then the node's own link is pushed, and no node is added.
     #[cycle(exchanging)]
     pub(crate) fn exchange_below<V: Volume>(
         &mut self,
@@ -74,11 +74,13 @@ impl NodeTable {
         ensures made { (rest : KeyedRow) → OnOk result (row_before (node_views self.new.nodes.items) made.new.items rest ≡ row_before (node_views self.old.nodes.items) made.old.items (exchanged_node gone.now come top.key (slice_get (node_views self.old.nodes.items) top.number) rest)) }
         ensures there { OnOk result (AreStandingLinks (V.state volume.new) self.new.nodes.items made.new.items) }
         ensures added { AreNodesAdded self.old.nodes.items self.new.nodes.items }
+        ensures same { IfOk result (λ found. found ≡ false → self.new.nodes.items ≡ self.old.nodes.items) }
         ensures fanout { self.new.fanout ≡ self.old.fanout }
         ensures reads { IsReadOnlyCall (V.state volume.old) (V.state volume.new) result }
         ensures kept { AreKept (V.state volume.new).holds cache.new }
     {
         exchange_keeps_nodes();
+        let number = self.nodes.len();
         let node = self.opened_copy(alloc, volume, cache, top.number)?;
         let mut links = Vec::new(alloc);
         if self.exchange_among(
@@ -96,6 +98,7 @@ impl NodeTable {
             self.push_node(volume, node.level, top.key, links, made)?;
             return Ok(true);
         }
+        self.take_back(number);
         made.push(Link::ToNode {
             key: top.key,
             number: top.number,

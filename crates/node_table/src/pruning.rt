@@ -49,7 +49,7 @@ pub fn is_in_range(leaf: &Leaf, from: u128, to: u128) -> bool
 
 impl NodeTable {
     /// Adds what is left of a node without the leaves of the range, pushes a link to it, if it has children left, and answers how
-    /// many leaves went. Where none did, the node's own link is pushed.
+    /// many leaves went. Where none did, the node's own link is pushed. Nodes stay in the table only where some of their leaves do.
     #[cycle(pruning)]
     pub(crate) fn prune_below<V: Volume>(
         &mut self,
@@ -69,11 +69,13 @@ impl NodeTable {
         ensures made { (rest : KeyedRow) → OnOk result (row_before (node_views self.new.nodes.items) made.new.items rest ≡ row_before (node_views self.old.nodes.items) made.old.items (pruned_node from to top.key (slice_get (node_views self.old.nodes.items) top.number) rest)) }
         ensures there { OnOk result (AreStandingLinks (V.state volume.new) self.new.nodes.items made.new.items) }
         ensures added { AreNodesAdded self.old.nodes.items self.new.nodes.items }
+        ensures same { IfOk result (λ gone. gone ≡ 0 → self.new.nodes.items ≡ self.old.nodes.items) }
         ensures fanout { self.new.fanout ≡ self.old.fanout }
         ensures reads { IsReadOnlyCall (V.state volume.old) (V.state volume.new) result }
         ensures kept { AreKept (V.state volume.new).holds cache.new }
     {
         pruning_keeps_nodes();
+        let number = self.nodes.len();
         let node = self.opened_copy(alloc, volume, cache, top.number)?;
         let mut links = Vec::new(alloc);
         let gone = self.prune_among(
@@ -86,6 +88,7 @@ impl NodeTable {
             &mut links,
         )?;
         if gone == 0 {
+            self.take_back(number);
             made.push(Link::ToNode {
                 key: top.key,
                 number: top.number,
@@ -93,6 +96,7 @@ impl NodeTable {
             return Ok(gone);
         }
         if links.is_empty() {
+            self.take_back(number);
             return Ok(gone);
         }
         self.push_node(volume, node.level, top.key, links, made)?;

@@ -1,6 +1,6 @@
 // A removal of a range of keys answers another root, and the old one goes on showing the old index.
 
-ghost use Rattle.std.specs.Prelude.{◌≡◌, ◌-◌, ◌^◌, min, IfOk, length};
+ghost use Rattle.std.specs.Prelude.{◌≡◌, ◌-◌, ◌^◌, min, IfOk, OnErr, length};
 ghost use Rattle.index_tree.specs.Order.{key_rank};
 ghost use Rattle.index_tree.specs.RangeRemoval.{within_range};
 ghost use Rattle.index_media.specs.KeyedRange.{without_range_by_keys};
@@ -31,8 +31,41 @@ pub struct RangeRemoved {
 
 impl NodeTable {
     /// Stages a removal of a range: takes out the leaves with keys from `from` to `to`, both included, with the nodes that this
-    /// empties. All nodes stay where they stood, and below each root stands what stood there, after a fault too.
+    /// empties. All nodes stay where they stood, and below each root stands what stood there. After a fault the table is as before.
     pub fn remove_range<V: Volume>(
+        &mut self,
+        alloc: Global,
+        volume: &mut V,
+        cache: &mut NodeCache,
+        root: Option<Root>,
+        from: &Key,
+        to: &Key,
+    ) -> Result<RangeRemoved, AreaFault>
+        requires root { IsSoundRoot self.old.nodes.items root }
+        requires stands { DoesRootStand (V.state volume.old) self.old.nodes.items root }
+        requires kept { AreKept (V.state volume.old).holds cache.old }
+        ensures made { IfOk result (λ made. tree_at self.new.nodes.items made.root ≡ without_range_by_keys (key_rank from.now) (key_rank to.now) (tree_at self.old.nodes.items root)) }
+        ensures number { IfOk result (λ made. made.number ≡ min (length (within_range (key_rank from.now) (key_rank to.now) (leaves_at self.old.nodes.items root))) (2 ^ 64 - 1)) }
+        ensures root { IfOk result (λ made. IsSoundRoot self.new.nodes.items made.root) }
+        ensures added { AreNodesAdded self.old.nodes.items self.new.nodes.items }
+        ensures err { OnErr result (self.new.nodes.items ≡ self.old.nodes.items) }
+        ensures stands { IfOk result (λ made. DoesRootStand (V.state volume.new) self.new.nodes.items made.root) }
+        ensures fanout { self.new.fanout ≡ self.old.fanout }
+        ensures reads { IsReadOnlyCall (V.state volume.old) (V.state volume.new) result }
+        ensures kept { AreKept (V.state volume.new).holds cache.new }
+    {
+        let number = self.nodes.len();
+        match self.prune_root(alloc, volume, cache, root, from, to) {
+            Ok(left) => Ok(left),
+            Err(fault) => {
+                self.take_back(number);
+                Err(fault)
+            }
+        }
+    }
+
+    /// The same; after a fault some nodes may have been added.
+    fn prune_root<V: Volume>(
         &mut self,
         alloc: Global,
         volume: &mut V,

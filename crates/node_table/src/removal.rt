@@ -1,13 +1,14 @@
 // A removal and a replacement answer another root, and the old one goes on showing the old index.
 
-ghost use Rattle.std.specs.Prelude.{◌≡◌, ◌<◌, IfOk, Some, length};
+ghost use Rattle.std.specs.Prelude.{◌≡◌, ◌<◌, false, IfOk, Some, length};
 ghost use Rattle.index_tree.specs.Order.{leaf_rank};
+ghost use Rattle.index_tree.specs.Removal.{holds};
 ghost use Rattle.index_media.specs.KeyedRemoval.{keyed_collapsed, replaced_by_keys};
 ghost use Rattle.node_table.specs.Exchange.{tree_without};
 ghost use Rattle.node_cache.specs.Kept.{AreKept};
 ghost use Rattle.node_cache.specs.Loaded.{IsReadOnlyCall};
 ghost use Rattle.node_table.specs.Unloaded.{DoesRootStand};
-ghost use Rattle.table_nodes.specs.NodeView.{tree_at};
+ghost use Rattle.table_nodes.specs.NodeView.{tree_at, leaves_at};
 ghost use Rattle.table_nodes.specs.Links.{AreNodesAdded};
 ghost use Rattle.node_table.specs.Staging.{IsSoundRoot};
 ghost use Rattle.ubifs_base.specs.Key.{IsKey};
@@ -25,7 +26,7 @@ use table_nodes::Root;
 use ubi_volume::{AreaFault, Volume};
 
 impl NodeTable {
-    /// The root that is left of one: while a root leads to one node alone, that node takes its place. A root that isn't loaded is opened for that.
+    /// The root that is left of one: while a root leads to one node alone, that node takes its place. A root that isn't loaded is read for that.
     pub(crate) fn sink_root<V: Volume>(
         &mut self,
         alloc: Global,
@@ -44,15 +45,19 @@ impl NodeTable {
         ensures reads { IsReadOnlyCall (V.state volume.old) (V.state volume.new) result }
         ensures kept { AreKept (V.state volume.new).holds cache.new }
     {
+        let number = self.nodes.len();
         let links = self.opened_links(alloc, volume, cache, root.number)?;
         match only_node(links.as_slice()) {
-            None => Ok(root),
+            None => {
+                self.take_back(number);
+                Ok(root)
+            }
             Some(child) => self.sink_root(alloc, volume, cache, child),
         }
     }
 
-    /// Stages a removal: takes the leaf out, with the nodes that this empties, and answers the new root, which is the old one where
-    /// the leaf isn't there. All nodes stay where they stood, and below each root stands what stood there, after a fault too.
+    /// Stages a removal: takes the leaf out, with the nodes that this empties, and answers the new root. Where the leaf isn't there, it is the
+    /// old one, and the table is as before. All nodes stay where they stood, and below each root stands what stood there, after a fault too.
     pub fn remove<V: Volume>(
         &mut self,
         alloc: Global,
@@ -68,6 +73,7 @@ impl NodeTable {
         ensures root { IfOk result (λ made. IsSoundRoot self.new.nodes.items made) }
         ensures stands { IfOk result (λ made. DoesRootStand (V.state volume.new) self.new.nodes.items made) }
         ensures added { AreNodesAdded self.old.nodes.items self.new.nodes.items }
+        ensures same { IfOk result (λ _. holds leaf.now (leaves_at self.old.nodes.items root) ≡ false → self.new.nodes.items ≡ self.old.nodes.items) }
         ensures fanout { self.new.fanout ≡ self.old.fanout }
         ensures reads { IsReadOnlyCall (V.state volume.old) (V.state volume.new) result }
         ensures kept { AreKept (V.state volume.new).holds cache.new }
@@ -92,8 +98,8 @@ impl NodeTable {
         }
     }
 
-    /// Stages a replacement: puts a leaf at the place of another of its key, and answers the new root, which is the old one where
-    /// that leaf isn't there. All nodes stay where they stood, and below each root stands what stood there, after a fault too.
+    /// Stages a replacement: puts a leaf at the place of another of its key, and answers the new root. Where that leaf isn't there, it is the
+    /// old one, and the table is as before. All nodes stay where they stood, and below each root stands what stood there, after a fault too.
     pub fn replace<V: Volume>(
         &mut self,
         alloc: Global,
@@ -111,6 +117,7 @@ impl NodeTable {
         ensures root { IfOk result (λ made. IsSoundRoot self.new.nodes.items made) }
         ensures stands { IfOk result (λ made. DoesRootStand (V.state volume.new) self.new.nodes.items made) }
         ensures added { AreNodesAdded self.old.nodes.items self.new.nodes.items }
+        ensures same { IfOk result (λ _. holds leaf.now (leaves_at self.old.nodes.items root) ≡ false → self.new.nodes.items ≡ self.old.nodes.items) }
         ensures fanout { self.new.fanout ≡ self.old.fanout }
         ensures reads { IsReadOnlyCall (V.state volume.old) (V.state volume.new) result }
         ensures kept { AreKept (V.state volume.new).holds cache.new }

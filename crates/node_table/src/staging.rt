@@ -9,7 +9,6 @@ ghost use Rattle.table_nodes.specs.NodeView.{tree_at, leaves_at};
 ghost use Rattle.table_nodes.specs.Links.{AreNodesAdded};
 ghost use Rattle.node_table.specs.Staging.{IsSoundRoot};
 
-use crate::bounds::truncate_both;
 use crate::change::Change;
 use crate::table::NodeTable;
 use index_media::{
@@ -123,7 +122,7 @@ impl NodeTable {
         match self.stage_all(alloc, volume, cache, root, changes) {
             Ok(made) => Ok(made),
             Err(fault) => {
-                truncate_both(&mut self.nodes, &mut self.most_dirty, number);
+                self.take_back(number);
                 Err(fault)
             }
         }

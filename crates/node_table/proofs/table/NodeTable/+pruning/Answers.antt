@@ -1,4 +1,4 @@
-use Rattle.std.proofs.Common.{ℕ, true, List, ◌≡◌, ◌∷◌, ◌++◌, ◌-◌, ◌^◌, ◌<◌, [], ap, sym, subst, ◌∙◌, arith, length}
+use Rattle.std.proofs.Common.{ℕ, true, List, ◌≡◌, ◌∷◌, ◌++◌, ◌-◌, ◌^◌, ◌<◌, [], ap, sym, refl, subst, ◌∙◌, arith, length}
 use Rattle.std.proofs.lemmas.Bool.Decides.{nat_tests}
 use Rattle.std.specs.Prelude.{IfOk, OnOk, min, slice_get}
 use Rattle.index_tree.specs.RangeRemoval.{within_range}
@@ -7,7 +7,7 @@ use Rattle.index_tree.specs.declared.leaf.Leaf.{Leaf}
 use Rattle.index_media.specs.InsertionSound.{fit_node}
 use Rattle.index_media.specs.KeyedRange.{pruned_by_keys}
 use Rattle.index_media.specs.KeyedRow.{KeyedRow, no_more, bare}
-use Rattle.table_nodes.specs.LinkLaws.{added_both, links_in_added}
+use Rattle.table_nodes.specs.LinkLaws.{added_both, added_none, links_in_added, links_kept}
 use Rattle.table_nodes.specs.Links.{row_before}
 use Rattle.table_nodes.specs.NodeView.{node_views, row_of}
 use Rattle.table_nodes.specs.declared.link.Link.{Link}
@@ -199,11 +199,16 @@ prune_below-prune_among-requires g t c κs within =
     let size = ap row_size (node.children ∙ ap (row_of (node_views mid)) (sym slice)) in
     (omega (arith, size, c.decreases), (within, (subst F (sym node.fanout) fit.children, (sound.2, (none, (stands.stand, node.kept))))))
 
+pub prune_below-take_back-requires : goal.prune_below-take_back-requires
+prune_below-take_back-requires g t c =
+    let same = c.len-number.ensures in
+    record { before = (c.args.self.now, added_both c.args.self.now.nodes.items c.opened_copy.new.self.nodes.items c.prune_among.new.self.nodes.items c.in_ok-node.ensures.added c.in_ok-gone.ensures.added, sym (c.in_ok-gone.ensures.fanout ∙ c.in_ok-node.ensures.fanout), omega (arith, same)) }
+
 pub prune_below-returns-then-gone-eq0-clause-made : goal.prune_below-returns-then-gone-eq0-clause-made
 prune_below-returns-then-gone-eq0-clause-made g t c = λ rest.
     let old = c.args.self.now.nodes.items in
     let mid = c.opened_copy.new.self.nodes.items in
-    let now = c.prune_among.new.self.nodes.items in
+    let last = c.take_back.new.self.nodes.items in
     let f = c.args.self.now.fanout in
     let from = c.args.from in
     let to = c.args.to in
@@ -213,9 +218,10 @@ prune_below-returns-then-gone-eq0-clause-made g t c = λ rest.
     let fit = fit_node f (bare row) done sound.0 in
     let zero : c.in_ok-gone.gone ≡ 0 = grind (arith, nat_tests, c.if-gone-eq0.true) in
     let none = none_gone (2 ^ 64 - 1) c.in_ok-gone.gone (within_range from to (contents (bare row))) (omega arith) c.in_ok-gone.ensures.gone zero in
-    let added = added_both old mid now c.in_ok-node.ensures.added c.in_ok-gone.ensures.added in
-    ap (λ v. row_before (node_views now) v rest) c.in_ok-push.ensures.items
-    ∙ below_same c.pruning_keeps_nodes.ensures.same f from to old now c.args.top.key c.args.top.number row c.args.made.now.items rest c.requires.top added c.requires.there.there
+    let same = c.len-number.ensures in
+    let back = c.take_back.ensures.nodes old (added_both old mid c.prune_among.new.self.nodes.items c.in_ok-node.ensures.added c.in_ok-gone.ensures.added) (omega (arith, same)) in
+    ap (λ v. row_before (node_views last) v rest) c.in_ok-push.ensures.items
+    ∙ below_same c.pruning_keeps_nodes.ensures.same f from to old last c.args.top.key c.args.top.number row c.args.made.now.items rest c.requires.top (added_none old last back) c.requires.there.there
     children fit.least fit.children none
 
 pub prune_below-returns-then-gone-eq0-clause-there : goal.prune_below-returns-then-gone-eq0-clause-there
@@ -224,34 +230,76 @@ prune_below-returns-then-gone-eq0-clause-there g t c =
     let b = g.V.Volume.state c.opened_copy.new.volume in
     let d = g.V.Volume.state c.prune_among.new.volume in
     let old = c.args.self.now.nodes.items in
-    let mid = c.opened_copy.new.self.nodes.items in
-    let now = c.prune_among.new.self.nodes.items in
+    let last = c.take_back.new.self.nodes.items in
     let made = c.args.made.now.items in
     let link = ToNode c.args.top.key c.args.top.number in
     let one : AreStandingLinks a old (link ∷ []) = record { there = (c.requires.top, tt); stand = c.requires.stands } in
-    subst (λ (v : List Link). AreStandingLinks d now v) (sym c.in_ok-push.ensures.items)
-    (standing_twice a b d old mid now (made ++ link ∷ []) c.in_ok-node.ensures.reads.keeps c.in_ok-node.ensures.reads.shape c.in_ok-gone.ensures.reads.keeps c.in_ok-gone.ensures.reads.shape
-    c.in_ok-node.ensures.added c.in_ok-gone.ensures.added (standing_both a old made (link ∷ []) c.requires.there one))
+    let same = c.len-number.ensures in
+    let back = c.take_back.ensures.nodes old (added_both old c.opened_copy.new.self.nodes.items c.prune_among.new.self.nodes.items c.in_ok-node.ensures.added c.in_ok-gone.ensures.added) (omega (arith, same)) in
+    subst (λ (v : List Link). AreStandingLinks d last v) (sym c.in_ok-push.ensures.items)
+    (standing_twice a b d old old last (made ++ link ∷ []) c.in_ok-node.ensures.reads.keeps c.in_ok-node.ensures.reads.shape c.in_ok-gone.ensures.reads.keeps c.in_ok-gone.ensures.reads.shape
+    (added_none old old refl) (added_none old last back) (standing_both a old made (link ∷ []) c.requires.there one))
+
+pub prune_below-returns-in_err-push-clause-added : goal.prune_below-returns-in_err-push-clause-added
+prune_below-returns-in_err-push-clause-added g t c =
+    let old = c.args.self.now.nodes.items in
+    let same = c.len-number.ensures in
+    added_none old c.take_back.new.self.nodes.items
+    (c.take_back.ensures.nodes old (added_both old c.opened_copy.new.self.nodes.items c.prune_among.new.self.nodes.items c.in_ok-node.ensures.added c.in_ok-gone.ensures.added) (omega (arith, same)))
+
+pub prune_below-returns-then-gone-eq0-clause-added : goal.prune_below-returns-then-gone-eq0-clause-added
+prune_below-returns-then-gone-eq0-clause-added g t c =
+    let old = c.args.self.now.nodes.items in
+    let same = c.len-number.ensures in
+    added_none old c.take_back.new.self.nodes.items
+    (c.take_back.ensures.nodes old (added_both old c.opened_copy.new.self.nodes.items c.prune_among.new.self.nodes.items c.in_ok-node.ensures.added c.in_ok-gone.ensures.added) (omega (arith, same)))
+
+pub prune_below-returns-then-gone-eq0-clause-same : goal.prune_below-returns-then-gone-eq0-clause-same
+prune_below-returns-then-gone-eq0-clause-same g t c = λ none.
+    let old = c.args.self.now.nodes.items in
+    let same = c.len-number.ensures in
+    c.take_back.ensures.nodes old (added_both old c.opened_copy.new.self.nodes.items c.prune_among.new.self.nodes.items c.in_ok-node.ensures.added c.in_ok-gone.ensures.added) (omega (arith, same))
+
+pub prune_below-take_back-requires-then-is_empty : goal.prune_below-take_back-requires-then-is_empty
+prune_below-take_back-requires-then-is_empty g t c =
+    let same = c.len-number.ensures in
+    record { before = (c.args.self.now, added_both c.args.self.now.nodes.items c.opened_copy.new.self.nodes.items c.prune_among.new.self.nodes.items c.in_ok-node.ensures.added c.in_ok-gone.ensures.added, sym (c.in_ok-gone.ensures.fanout ∙ c.in_ok-node.ensures.fanout), omega (arith, same)) }
 
 pub prune_below-returns-then-is_empty-clause-made : goal.prune_below-returns-then-is_empty-clause-made
 prune_below-returns-then-is_empty-clause-made g t c = λ rest.
     let old = c.args.self.now.nodes.items in
     let mid = c.opened_copy.new.self.nodes.items in
     let now = c.prune_among.new.self.nodes.items in
+    let last = c.take_back-then-is_empty.new.self.nodes.items in
+    let made = c.args.made.now.items in
     let links = c.prune_among.new.made.items in
     let row = row_of (node_views mid) c.as_slice.result.now in
     let children = c.in_ok-node.ensures.children ∙ ap (row_of (node_views mid)) (sym c.as_slice.ensures.value) in
-    let made = made_row mid now c.new-links.result.items links _ c.new-links.ensures.items c.in_ok-gone.ensures.made in
+    let left = made_row mid now c.new-links.result.items links _ c.new-links.ensures.items c.in_ok-gone.ensures.made in
     let none : length links ≡ 0 = grind (arith, nat_tests, c.is_empty.ensures, c.if-is_empty.true, c.prune_among.new.made.ok.0) in
     let added = added_both old mid now c.in_ok-node.ensures.added c.in_ok-gone.ensures.added in
-    below_emptied c.args.from c.args.to old now c.args.top.key (slice_get (node_views old) c.args.top.number) row c.args.made.now.items links rest added c.requires.there.there children made none
+    let same = c.len-number.ensures in
+    let back = c.take_back-then-is_empty.ensures.nodes old added (omega (arith, same)) in
+    links_kept old last made rest (added_none old last back) c.requires.there.there ∙ sym (links_kept old now made rest added c.requires.there.there)
+    ∙ below_emptied c.args.from c.args.to old now c.args.top.key (slice_get (node_views old) c.args.top.number) row made links rest added c.requires.there.there children left none
 
 pub prune_below-returns-then-is_empty-clause-there : goal.prune_below-returns-then-is_empty-clause-there
 prune_below-returns-then-is_empty-clause-there g t c =
+    let old = c.args.self.now.nodes.items in
+    let same = c.len-number.ensures in
+    let back = c.take_back-then-is_empty.ensures.nodes old
+    (added_both old c.opened_copy.new.self.nodes.items c.prune_among.new.self.nodes.items c.in_ok-node.ensures.added c.in_ok-gone.ensures.added) (omega (arith, same)) in
     standing_twice (g.V.Volume.state c.args.volume.now) (g.V.Volume.state c.opened_copy.new.volume) (g.V.Volume.state c.prune_among.new.volume)
-    c.args.self.now.nodes.items c.opened_copy.new.self.nodes.items c.prune_among.new.self.nodes.items c.args.made.now.items
+    old old c.take_back-then-is_empty.new.self.nodes.items c.args.made.now.items
     c.in_ok-node.ensures.reads.keeps c.in_ok-node.ensures.reads.shape c.in_ok-gone.ensures.reads.keeps c.in_ok-gone.ensures.reads.shape
-    c.in_ok-node.ensures.added c.in_ok-gone.ensures.added c.requires.there
+    (added_none old old refl) (added_none old c.take_back-then-is_empty.new.self.nodes.items back) c.requires.there
+
+pub prune_below-returns-then-is_empty-clause-added : goal.prune_below-returns-then-is_empty-clause-added
+prune_below-returns-then-is_empty-clause-added g t c =
+    let old = c.args.self.now.nodes.items in
+    let same = c.len-number.ensures in
+    added_none old c.take_back-then-is_empty.new.self.nodes.items
+    (c.take_back-then-is_empty.ensures.nodes old (added_both old c.opened_copy.new.self.nodes.items c.prune_among.new.self.nodes.items c.in_ok-node.ensures.added c.in_ok-gone.ensures.added) (omega (arith, same)))
 
 pub prune_below-push_node-requires-clause-sound : goal.prune_below-push_node-requires-clause-sound
 prune_below-push_node-requires-clause-sound g t c =

@@ -6,7 +6,7 @@ use Rattle.node_table.specs.Staging.{only_root, IsSoundRoot}
 use Rattle.node_table.specs.Unloaded.{DoesRootStand}
 use Rattle.table_nodes.specs.declared.node.Root.{Root}
 use Rattle.node_table.proofs.Inserted.{tree_kept, sound_kept}
-use Rattle.node_table.proofs.Removed.{only_linked, option_stands, root_stands_on, without_none, left_row, none_left, one_left, sound_by, without_sound}
+use Rattle.node_table.proofs.Removed.{held_there, only_linked, option_stands, root_stands_on, without_none, left_row, none_left, one_left, sound_by, without_sound}
 use Rattle.node_table.proofs.table.NodeTable.remove.Goals as goal
 
 pub returns-then-not-branch-clause-made : goal.returns-then-not-branch-clause-made
@@ -35,6 +35,17 @@ returns-then-not-branch-clause-stands g c =
     let reads = c.exchange_below.ensures.reads in
     let P : Option Root → Type 0 = λ r. DoesRootStand b c.exchange_below.new.self.nodes.items r in
     subst P c.in-Some.is (root_stands_on a b old c.exchange_below.new.self.nodes.items c.args.root reads.keeps reads.shape c.exchange_below.ensures.added c.requires.root.there c.requires.stands)
+
+pub returns-then-not-branch-clause-same : goal.returns-then-not-branch-clause-same
+returns-then-not-branch-clause-same g c = λ none. c.in_ok-exchange_below-in-Some.ensures.same c.if-not-branch.true
+
+pub returns-in-None-only_node-clause-same : goal.returns-in-None-only_node-clause-same
+returns-in-None-only_node-clause-same g c = λ none.
+    absurd (held_there c.args.self.now.nodes.items c.args.root c.in-Some.top c.args.leaf.now c.in-Some.is (sym c.in_ok-exchange_below-in-Some.ensures.found ∙ c.if-not-branch.false) none)
+
+pub returns-clause-same : goal.returns-clause-same
+returns-clause-same g c = λ none.
+    absurd (held_there c.args.self.now.nodes.items c.args.root c.in-Some.top c.args.leaf.now c.in-Some.is (sym c.in_ok-exchange_below-in-Some.ensures.found ∙ c.if-not-branch.false) none)
 
 pub returns-in-None-only_node-clause-made : goal.returns-in-None-only_node-clause-made
 returns-in-None-only_node-clause-made g c =

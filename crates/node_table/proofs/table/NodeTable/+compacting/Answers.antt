@@ -1,4 +1,4 @@
-use Rattle.std.proofs.Common.{◌≡◌, List, [], ap, sym, refl, ◌∙◌, subst, arith, length, true, Vec, Global}
+use Rattle.std.proofs.Common.{◌≡◌, ◌≤◌, ◌+◌, ◌*◌, List, [], ◌∷◌, ap, sym, refl, ◌∙◌, subst, arith, length, true, Vec, Global}
 use Rattle.std.specs.Prelude.{None, OnOk}
 use Rattle.index_media.specs.Clean.{placed_of}
 use Rattle.index_media.specs.KeyedRow.{KeyedRow, no_more}
@@ -8,15 +8,17 @@ use Rattle.table_nodes.specs.Links.{row_before, AreLinksIn}
 use Rattle.table_nodes.specs.NodeView.{node_view_of, node_views, row_of}
 use Rattle.table_nodes.specs.declared.link.Link.{Link}
 use Rattle.table_nodes.specs.declared.node.TableNode.{TableNode}
+use Rattle.node_table.specs.Dirty.{dirty_among, dirty_from, dirty_lists}
 use Rattle.node_table.specs.StandingLinks.{standing_none, standing_pushed}
 use Rattle.node_table.specs.Unloaded.{are_unloaded_if_clean, AreStandingLinks}
 use Rattle.node_table.specs.UnloadedLaws.{link_first}
 use Rattle.node_table.specs.declared.table.NodeTable.{NodeTable}
 use Rattle.node_table.proofs.CopiedNodes.{copies_sound, dirty_links, dirty_shown, leaf_copied, node_copied, placed_on, placed_shown, IsLinkCopied}
+use Rattle.node_table.proofs.CopiedNumbers.{dirty_numbers, link_numbers, links_numbers, one_number}
 use Rattle.node_table.proofs.Inserted.{made_row}
 use Rattle.node_table.proofs.Rows.{linked_size, row_size}
-use Rattle.node_table.proofs.table.NodeTable.+copying.Goals as goal
-use Rattle.node_table.proofs.table.NodeTable.+copying.Goals.{copy_among-in-ToLeaf+in_ok-push-in-ToLeaf, copy_among-in-ToNode+in_ok-copy-in-ToNode+in_ok-push-in-ToNode}
+use Rattle.node_table.proofs.table.NodeTable.+compacting.Goals as goal
+use Rattle.node_table.proofs.table.NodeTable.+compacting.Goals.{copy_among-in-ToLeaf+in_ok-push-in-ToLeaf, copy_among-in-ToNode+in_ok-copy-in-ToNode+in_ok-push-in-ToNode}
 
 pub copy_among-copy_among-requires : goal.copy_among-copy_among-requires
 copy_among-copy_among-requires g t c κs within =
@@ -81,6 +83,23 @@ copy_among-returns-after-link-clause-copied g t c =
     ] in
     let Q : KeyedRow → Type 0 = λ r. OnOk c.copy_among.result (row_before (node_views c.copy_among.new.made.nodes.items) c.copy_among.new.copies.items no_more ≡ r) in
     subst Q (step.copied (row_of seen rest) ∙ ap (λ (v : List Link). row_before (node_views old) was (row_of seen v)) (sym c.in-Some.ensures.cases.0)) c.copy_among.ensures.copied
+
+pub copy_among-returns-after-link-clause-few : goal.copy_among-returns-after-link-clause-few
+copy_among-returns-after-link-clause-few g t c =
+    let f = c.args.self.now.fanout in
+    let known = dirty_lists c.args.self.now.nodes.items in
+    let link = c.in-Some.link.now in
+    let old = c.args.made.now.nodes.items in
+    let new = c.match-link.made.nodes.items in
+    let step : length new ≤ length old + f * length (dirty_among known (link ∷ [])) + 1 = elim c.match-link.branch [
+      | copy_among-in-ToLeaf+in_ok-push-in-ToLeaf w ↦ let same = ap (λ (m : NodeTable). length m.nodes.items) w.made-is in omega (arith, same)
+      | copy_among-in-ToNode+in_ok-copy-in-ToNode+in_ok-push-in-ToNode w ↦
+          let made = ap (λ (m : NodeTable). length m.nodes.items) w.made-is in
+          let one = link_numbers f known (length old) (length w.copy_below.new.made.nodes.items) w.in-ToNode.key w.in-ToNode.number w.in_ok-copy-in-ToNode.ensures.few in
+          let same = ap (λ (l : Link). f * length (dirty_among known (l ∷ []))) w.in-ToNode.is in
+          omega (arith, made, one, same)
+    ] in
+    links_numbers f known c.args.links.now c.in-Some.rest.now link (length old) (length new) (length c.copy_among.new.made.nodes.items) c.copy_among.result c.in-Some.ensures.cases.0 step c.copy_among.ensures.few
 
 pub copy_below-add_unloaded-requires : goal.copy_below-add_unloaded-requires
 copy_below-add_unloaded-requires g t c =
@@ -149,3 +168,17 @@ copy_below-returns-in_ok-copy-in-None-place-clause-there g t c = λ key.
     let node : TableNode = record { level = c.in-Some.node.now.level; place = None; links = c.copy_among.new.copies; beyond = None } in
     let copy = c.in_ok-copy-in-None-place in
     standing_pushed s old c.add.new.self.nodes.items node copy.copy key [] copy.ensures.added copy.ensures.number refl c.in_ok-copy_among-in-None-place.ensures.there (standing_none s old)
+
+pub copy_below-returns-in_ok-copy-in-Some-place-clause-few : goal.copy_below-returns-in_ok-copy-in-Some-place-clause-few
+copy_below-returns-in_ok-copy-in-Some-place-clause-few g t c =
+    let self = c.args.self.now in
+    let added = c.in_ok-copy-in-Some-place.ensures.added in
+    one_number self.fanout (length (dirty_from self.nodes.items c.args.number)) c.args.made.now.nodes.items c.add_unloaded.new.self.nodes.items added.0 added.1
+
+pub copy_below-returns-in_ok-copy-in-None-place-clause-few : goal.copy_below-returns-in_ok-copy-in-None-place-clause-few
+copy_below-returns-in_ok-copy-in-None-place-clause-few g t c =
+    let self = c.args.self.now in
+    let n = c.in-Some.node.now in
+    let node : TableNode = record { level = n.level; place = None; links = c.copy_among.new.copies; beyond = None } in
+    dirty_numbers self.fanout self.nodes.items c.args.made.now.nodes.items c.copy_among.new.made.nodes.items c.add.new.self.nodes.items c.args.number n node c.as_slice.result.now self.sound c.in-Some.ensures.some
+    c.in-None-place.is c.as_slice.ensures.value c.in-Some.ensures.sound c.in_ok-copy_among-in-None-place.ensures.few c.in_ok-copy-in-None-place.ensures.added
