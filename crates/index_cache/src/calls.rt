@@ -269,8 +269,8 @@ impl PagedIndex {
 
     /// Takes out the leaves with keys from `from` to `to`, both included, with the nodes that this empties, and answers how
     /// many leaves went: `u64::MAX` stands for more as well. Nodes on the ways to them are dirty, and all others keep their
-    /// places. A root with one child gives way to it, even if no leaf went. The nodes of the whole range are read, to count, and none of those is
-    /// kept below which no leaf is left.
+    /// places. A root with one child gives way to it, even if no leaf went. The nodes of the whole range are read, to count. What was
+    /// opened below those that go isn't kept. After a fault the table of nodes is as before too.
     pub fn remove_range<V: Volume>(
         &mut self,
         alloc: Global,
@@ -285,6 +285,7 @@ impl PagedIndex {
         ensures tree { OnOk result (keyed_tree_of self.new ≡ without_range_by_keys (key_rank from.now) (key_rank to.now) (keyed_tree_of self.old)) }
         ensures leaves { OnOk result (leaves_of self.new ≡ outside_range (key_rank from.now) (key_rank to.now) (leaves_of self.old)) }
         ensures err { OnErr result (keyed_tree_of self.new ≡ keyed_tree_of self.old) }
+        ensures nodes { OnErr result (self.new.table.nodes.items ≡ self.old.table.nodes.items) }
         ensures keeps { KeepsNodes self.old self.new }
         ensures stands { DoesIndexStand (V.state volume.new) self.new }
         ensures reads { IsReadOnlyCall (V.state volume.old) (V.state volume.new) result }

@@ -12,9 +12,9 @@ use ubi_volume::Volume;
 use ubifs_base::Memory;
 
 impl PagedIndex {
-    /// Lets all clean nodes go, with those that no link of the index leads to. Dirty nodes stay, and lead to clean ones that aren't loaded: so no
-    /// more nodes are left than one and the fanout for each dirty one. What is seen is frozen then, and what was staged is of no use any more.
-    /// Nothing is read. It asks that all clean nodes stand where they should.
+    /// Lets all clean nodes go, with those that no link of the index leads to. Dirty nodes stay, and lead to clean ones that aren't loaded: at most
+    /// the fanout for each dirty node, and one more, are left. What is seen is frozen then, and what was staged is of no use any more. Nothing is
+    /// read. It asks that all clean nodes stand where they should.
     ///
     /// After `Memory` the index is as before.
     pub fn evict<V: Volume>(&mut self, alloc: Global, volume: &V) -> Result<(), Memory>

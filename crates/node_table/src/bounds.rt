@@ -49,7 +49,7 @@ impl NodeTable {
     /// Lets the nodes go that were added since there were so many.
     pub(crate) fn take_back(&mut self, number: usize)
         requires before { (before : ATable) × AreNodesAdded before.nodes.items self.old.nodes.items × (before.fanout ≡ self.old.fanout) × (number ≡ length before.nodes.items) }
-        ensures nodes { (before : List ANode) → AreNodesAdded before self.old.nodes.items → number ≡ length before → self.new.nodes.items ≡ before }
+        ensures nodes { (first : List ANode) → AreNodesAdded first self.old.nodes.items → number ≡ length first → self.new.nodes.items ≡ first }
         ensures fanout { self.new.fanout ≡ self.old.fanout }
     {
         truncate_both(&mut self.nodes, &mut self.most_dirty, number);

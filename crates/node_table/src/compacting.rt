@@ -123,9 +123,9 @@ impl NodeTable {
         }
     }
 
-    /// Makes a table anew of what is below a root. Its dirty nodes are there, and the clean ones to which they lead, not loaded. No other node is:
-    /// there are no more than one and the fanout for each dirty one. It shows the same, with the same places. Nothing is read. It asks that all
-    /// clean nodes below the root stand on the volume.
+    /// Makes a table anew of what is below a root. Its dirty nodes are there, and the clean ones to which they lead, not loaded: at most the fanout
+    /// for each dirty node, and one more. One to which two links lead is there twice. It shows the same, with the same places. Nothing is read. It
+    /// asks that all clean nodes below the root stand on the volume.
     pub fn without_clean<V: Volume>(
         &self,
         alloc: Global,

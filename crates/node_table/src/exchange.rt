@@ -53,7 +53,7 @@ fn push_leaf(come: Option<Leaf>, made: &mut Vec<Link>) -> Result<(), AllocError>
 
 impl NodeTable {
     /// Adds the nodes of one path below a node, where a leaf gives way, and pushes a link to what stands for the node, if it has
-    /// children left. False where the leaf isn't there: then the node's own link is pushed, and no node is added.
+    /// children left. False where the leaf isn't there: then the node's own link is pushed, and no node stays that this added.
     #[cycle(exchanging)]
     pub(crate) fn exchange_below<V: Volume>(
         &mut self,
@@ -93,6 +93,7 @@ impl NodeTable {
             &mut links,
         )? {
             if links.is_empty() {
+                self.take_back(number);
                 return Ok(true);
             }
             self.push_node(volume, node.level, top.key, links, made)?;

@@ -49,7 +49,7 @@ pub fn is_in_range(leaf: &Leaf, from: u128, to: u128) -> bool
 
 impl NodeTable {
     /// Adds what is left of a node without the leaves of the range, pushes a link to it, if it has children left, and answers how
-    /// many leaves went. Where none did, the node's own link is pushed. Nodes stay in the table only where some of their leaves do.
+    /// many leaves went. Where none did, the node's own link is pushed. Where none went, or none is left, no node stays that this added.
     #[cycle(pruning)]
     pub(crate) fn prune_below<V: Volume>(
         &mut self,

@@ -73,7 +73,7 @@ impl NodeTable {
         ensures root { IfOk result (λ made. IsSoundRoot self.new.nodes.items made) }
         ensures stands { IfOk result (λ made. DoesRootStand (V.state volume.new) self.new.nodes.items made) }
         ensures added { AreNodesAdded self.old.nodes.items self.new.nodes.items }
-        ensures same { IfOk result (λ _. holds leaf.now (leaves_at self.old.nodes.items root) ≡ false → self.new.nodes.items ≡ self.old.nodes.items) }
+        ensures same { IfOk result (λ made. holds leaf.now (leaves_at self.old.nodes.items root) ≡ false → (made ≡ root) × (self.new.nodes.items ≡ self.old.nodes.items)) }
         ensures fanout { self.new.fanout ≡ self.old.fanout }
         ensures reads { IsReadOnlyCall (V.state volume.old) (V.state volume.new) result }
         ensures kept { AreKept (V.state volume.new).holds cache.new }
@@ -117,7 +117,7 @@ impl NodeTable {
         ensures root { IfOk result (λ made. IsSoundRoot self.new.nodes.items made) }
         ensures stands { IfOk result (λ made. DoesRootStand (V.state volume.new) self.new.nodes.items made) }
         ensures added { AreNodesAdded self.old.nodes.items self.new.nodes.items }
-        ensures same { IfOk result (λ _. holds leaf.now (leaves_at self.old.nodes.items root) ≡ false → self.new.nodes.items ≡ self.old.nodes.items) }
+        ensures same { IfOk result (λ made. holds leaf.now (leaves_at self.old.nodes.items root) ≡ false → (made ≡ root) × (self.new.nodes.items ≡ self.old.nodes.items)) }
         ensures fanout { self.new.fanout ≡ self.old.fanout }
         ensures reads { IsReadOnlyCall (V.state volume.old) (V.state volume.new) result }
         ensures kept { AreKept (V.state volume.new).holds cache.new }

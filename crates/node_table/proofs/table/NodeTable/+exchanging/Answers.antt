@@ -6,7 +6,7 @@ use Rattle.index_tree.specs.Shape.{contents, done, fits}
 use Rattle.index_media.specs.InsertionSound.{fit_node}
 use Rattle.index_media.specs.KeyedRow.{KeyedRow, no_more, bare}
 use Rattle.node_table.specs.Exchange.{exchanged_row, links_to}
-use Rattle.table_nodes.specs.LinkLaws.{added_both, added_none}
+use Rattle.table_nodes.specs.LinkLaws.{added_both, added_none, links_kept}
 use Rattle.table_nodes.specs.NodeView.{node_views, row_of}
 use Rattle.table_nodes.specs.Sound.{IsSoundView}
 use Rattle.table_nodes.specs.Links.{row_before}
@@ -288,14 +288,28 @@ exchange_below-exchange_among-requires g t c κs within =
       (within, (fit, (sound.2, (none, (c.requires.key, (subst L value c.in_ok-node.ensures.links.stand, c.opened_copy.ensures.kept)))))),
     )
 
+pub exchange_below-take_back-requires : goal.exchange_below-take_back-requires
+exchange_below-take_back-requires g t c =
+    let same = c.len-number.ensures in
+    record {
+      before = (
+        c.args.self.now,
+        added_both c.args.self.now.nodes.items c.opened_copy.new.self.nodes.items c.exchange_among.new.self.nodes.items c.opened_copy.ensures.added c.exchange_among.ensures.added,
+        sym (c.exchange_among.ensures.fanout ∙ c.opened_copy.ensures.fanout),
+        omega (arith, same),
+      );
+    }
+
 pub exchange_below-returns-then-is_empty-clause-made : goal.exchange_below-returns-then-is_empty-clause-made
 exchange_below-returns-then-is_empty-clause-made g t c = λ rest.
     let old = c.args.self.now.nodes.items in
     let mid = c.opened_copy.new.self.nodes.items in
     let now = c.exchange_among.new.self.nodes.items in
+    let last = c.take_back.new.self.nodes.items in
     let seen = node_views mid in
     let gone = c.args.gone.now in
     let come = c.args.come in
+    let was = c.args.made.now.items in
     let links = c.exchange_among.new.made.items in
     let row = row_of seen c.as_slice.result.now in
     let children = c.in_ok-node.ensures.children ∙ ap (row_of seen) (sym c.as_slice.ensures.value) in
@@ -304,7 +318,10 @@ exchange_below-returns-then-is_empty-clause-made g t c = λ rest.
     let sound = subst S (sym c.as_slice.ensures.value) c.in_ok-node.ensures.sound in
     let none : length links ≡ 0 = grind (arith, nat_tests, c.is_empty.ensures, c.if-is_empty.true, c.exchange_among.new.made.ok.0) in
     let added = added_both old mid now c.in_ok-node.ensures.added c.in_ok-exchange_among.ensures.added in
-    below_gone old now gone come c.args.top.key (slice_get (node_views old) c.args.top.number) row c.args.made.now.items links rest c.exchange_keeps_nodes.ensures.number added c.requires.there.there
+    let same = c.len-number.ensures in
+    let back = c.take_back.ensures.nodes old added (omega (arith, same)) in
+    links_kept old last was rest (added_none old last back) c.requires.there.there ∙ sym (links_kept old now was rest added c.requires.there.there)
+    ∙ below_gone old now gone come c.args.top.key (slice_get (node_views old) c.args.top.number) row was links rest c.exchange_keeps_nodes.ensures.number added c.requires.there.there
     children (fit_node c.args.self.now.fanout (bare row) done sound.0).least (sym c.in_ok-exchange_among.ensures.found ∙ c.if-branch.true) made none
 
 pub exchange_below-returns-then-is_empty-clause-there : goal.exchange_below-returns-then-is_empty-clause-there
@@ -313,12 +330,19 @@ exchange_below-returns-then-is_empty-clause-there g t c =
     let m = g.V.Volume.state c.opened_copy.new.volume in
     let b = g.V.Volume.state c.exchange_among.new.volume in
     let old = c.args.self.now.nodes.items in
-    let mid = c.opened_copy.new.self.nodes.items in
-    let now = c.exchange_among.new.self.nodes.items in
-    let made = c.args.made.now.items in
+    let last = c.take_back.new.self.nodes.items in
     let opens = c.opened_copy.ensures.reads in
     let reads = c.exchange_among.ensures.reads in
-    standing_through a m b old mid now made opens.keeps opens.shape reads.keeps reads.shape c.opened_copy.ensures.added c.exchange_among.ensures.added c.requires.there
+    let same = c.len-number.ensures in
+    let back = c.take_back.ensures.nodes old (added_both old c.opened_copy.new.self.nodes.items c.exchange_among.new.self.nodes.items c.opened_copy.ensures.added c.exchange_among.ensures.added) (omega (arith, same)) in
+    standing_through a m b old old last c.args.made.now.items opens.keeps opens.shape reads.keeps reads.shape (added_none old old refl) (added_none old last back) c.requires.there
+
+pub exchange_below-returns-then-is_empty-clause-added : goal.exchange_below-returns-then-is_empty-clause-added
+exchange_below-returns-then-is_empty-clause-added g t c =
+    let old = c.args.self.now.nodes.items in
+    let same = c.len-number.ensures in
+    added_none old c.take_back.new.self.nodes.items
+    (c.take_back.ensures.nodes old (added_both old c.opened_copy.new.self.nodes.items c.exchange_among.new.self.nodes.items c.opened_copy.ensures.added c.exchange_among.ensures.added) (omega (arith, same)))
 
 pub exchange_below-push_node-requires-clause-sound : goal.exchange_below-push_node-requires-clause-sound
 exchange_below-push_node-requires-clause-sound g t c =
@@ -381,8 +405,8 @@ exchange_below-returns-then-branch-clause-there g t c =
     let front = standing_through a m b old mid now made opens.keeps opens.shape reads.keeps reads.shape c.opened_copy.ensures.added c.exchange_among.ensures.added c.requires.there in
     c.in_ok-push_node.ensures.stands front c.in_ok-exchange_among.ensures.there
 
-pub exchange_below-take_back-requires : goal.exchange_below-take_back-requires
-exchange_below-take_back-requires g t c =
+pub exchange_below-take_back-requires-2 : goal.exchange_below-take_back-requires-2
+exchange_below-take_back-requires-2 g t c =
     let same = c.len-number.ensures in
     record { before = (c.args.self.now, added_both c.args.self.now.nodes.items c.opened_copy.new.self.nodes.items c.exchange_among.new.self.nodes.items c.opened_copy.ensures.added c.exchange_among.ensures.added, sym (c.exchange_among.ensures.fanout ∙ c.opened_copy.ensures.fanout), omega (arith, same)) }
 
@@ -391,12 +415,12 @@ exchange_below-returns-clause-made g t c = λ rest.
     let old = c.args.self.now.nodes.items in
     let mid = c.opened_copy.new.self.nodes.items in
     let now = c.exchange_among.new.self.nodes.items in
-    let last = c.take_back.new.self.nodes.items in
+    let last = c.take_back-2.new.self.nodes.items in
     let seen = node_views mid in
     let row = row_of seen c.as_slice.result.now in
     let children = c.in_ok-node.ensures.children ∙ ap (row_of seen) (sym c.as_slice.ensures.value) in
     let same = c.len-number.ensures in
-    let back = c.take_back.ensures.nodes old (added_both old mid now c.in_ok-node.ensures.added c.in_ok-exchange_among.ensures.added) (omega (arith, same)) in
+    let back = c.take_back-2.ensures.nodes old (added_both old mid now c.in_ok-node.ensures.added c.in_ok-exchange_among.ensures.added) (omega (arith, same)) in
     ap (λ v. row_before (node_views last) v rest) c.in_ok-push.ensures.items
     ∙ below_stays old last c.args.gone.now c.args.come c.args.top.key c.args.top.number row c.args.made.now.items rest c.requires.top (added_none old last back) c.requires.there.there
     children (sym c.in_ok-exchange_among.ensures.found ∙ c.if-branch.false)
@@ -409,14 +433,14 @@ exchange_below-returns-clause-there g t c =
     let old = c.args.self.now.nodes.items in
     let mid = c.opened_copy.new.self.nodes.items in
     let now = c.exchange_among.new.self.nodes.items in
-    let last = c.take_back.new.self.nodes.items in
+    let last = c.take_back-2.new.self.nodes.items in
     let made = c.args.made.now.items in
     let opens = c.opened_copy.ensures.reads in
     let reads = c.exchange_among.ensures.reads in
     let link = ToNode c.args.top.key c.args.top.number in
     let own = root_link a old c.args.top c.requires.top c.requires.stands in
     let same = c.len-number.ensures in
-    let back = c.take_back.ensures.nodes old (added_both old mid now c.opened_copy.ensures.added c.exchange_among.ensures.added) (omega (arith, same)) in
+    let back = c.take_back-2.ensures.nodes old (added_both old mid now c.opened_copy.ensures.added c.exchange_among.ensures.added) (omega (arith, same)) in
     let P : List Link → Type 0 = λ v. AreStandingLinks b last v in
     subst P (sym c.in_ok-push.ensures.items)
     (standing_through a m b old old last (made ++ link ∷ []) opens.keeps opens.shape reads.keeps reads.shape (added_none old old refl) (added_none old last back) (standing_both a old made (link ∷ []) c.requires.there own))
@@ -425,18 +449,18 @@ pub exchange_below-returns-in_err-push-clause-added : goal.exchange_below-return
 exchange_below-returns-in_err-push-clause-added g t c =
     let old = c.args.self.now.nodes.items in
     let same = c.len-number.ensures in
-    added_none old c.take_back.new.self.nodes.items
-    (c.take_back.ensures.nodes old (added_both old c.opened_copy.new.self.nodes.items c.exchange_among.new.self.nodes.items c.opened_copy.ensures.added c.exchange_among.ensures.added) (omega (arith, same)))
+    added_none old c.take_back-2.new.self.nodes.items
+    (c.take_back-2.ensures.nodes old (added_both old c.opened_copy.new.self.nodes.items c.exchange_among.new.self.nodes.items c.opened_copy.ensures.added c.exchange_among.ensures.added) (omega (arith, same)))
 
 pub exchange_below-returns-clause-added : goal.exchange_below-returns-clause-added
 exchange_below-returns-clause-added g t c =
     let old = c.args.self.now.nodes.items in
     let same = c.len-number.ensures in
-    added_none old c.take_back.new.self.nodes.items
-    (c.take_back.ensures.nodes old (added_both old c.opened_copy.new.self.nodes.items c.exchange_among.new.self.nodes.items c.opened_copy.ensures.added c.exchange_among.ensures.added) (omega (arith, same)))
+    added_none old c.take_back-2.new.self.nodes.items
+    (c.take_back-2.ensures.nodes old (added_both old c.opened_copy.new.self.nodes.items c.exchange_among.new.self.nodes.items c.opened_copy.ensures.added c.exchange_among.ensures.added) (omega (arith, same)))
 
 pub exchange_below-returns-clause-same : goal.exchange_below-returns-clause-same
 exchange_below-returns-clause-same g t c = λ none.
     let old = c.args.self.now.nodes.items in
     let same = c.len-number.ensures in
-    c.take_back.ensures.nodes old (added_both old c.opened_copy.new.self.nodes.items c.exchange_among.new.self.nodes.items c.opened_copy.ensures.added c.exchange_among.ensures.added) (omega (arith, same))
+    c.take_back-2.ensures.nodes old (added_both old c.opened_copy.new.self.nodes.items c.exchange_among.new.self.nodes.items c.opened_copy.ensures.added c.exchange_among.ensures.added) (omega (arith, same))

@@ -1,4 +1,4 @@
-use Rattle.std.proofs.Common.{Option, None, Some, ◌≡◌, ap, sym, subst, ◌∙◌}
+use Rattle.std.proofs.Common.{Option, None, Some, ◌≡◌, ap, refl, sym, subst, ◌∙◌}
 use Rattle.index_media.specs.KeyedRemoval.{replaced_by_keys}
 use Rattle.index_media.specs.KeyedRow.{no_more}
 use Rattle.table_nodes.specs.NodeView.{tree_at, IsRootIn}
@@ -37,7 +37,10 @@ returns-then-not-branch-clause-stands g c =
     subst P c.in-Some.is (root_stands_on a b old c.exchange_below.new.self.nodes.items c.args.root reads.keeps reads.shape c.exchange_below.ensures.added c.requires.root.there c.requires.stands)
 
 pub returns-then-not-branch-clause-same : goal.returns-then-not-branch-clause-same
-returns-then-not-branch-clause-same g c = λ none. c.in_ok-exchange_below-in-Some.ensures.same c.if-not-branch.true
+returns-then-not-branch-clause-same g c = λ none. (sym c.in-Some.is, c.in_ok-exchange_below-in-Some.ensures.same c.if-not-branch.true)
+
+pub returns-in-None-clause-same : goal.returns-in-None-clause-same
+returns-in-None-clause-same g c = λ none. (sym c.in-None.is, refl)
 
 pub returns-else-not-branch-clause-same : goal.returns-else-not-branch-clause-same
 returns-else-not-branch-clause-same g c = λ none.
