@@ -1,8 +1,10 @@
 -- The command line as `clap` takes it apart.
 use Rattle.std.specs.Prelude.{◌≡◌, ◌⊎◌, true, false, ℕ, List, [], ◌∷◌, map, Some, None, codes}
-use Rattle.clap.specs.Words.{App, Row, Rule, Shape, new_rule, subcommand_rows_of}
+use Rattle.clap.specs.Words.{App, app_of, Row, Rule, Shape, new_rule, subcommand_rows_of}
 use Rattle.clap.specs.Simple.{new_shape}
 use Rattle.clap.specs.declared.builder.value_parser.Reading.TheVariants.{AsWritten}
+use Rattle.clap.specs.declared.builder.command.Command.{Command}
+use Rattle.clap.specs.declared.builder.command.Command.TheViews.{out-Command as fields_of}
 use Rattle.clap.specs.declared.parser.ArgMatches.{ArgMatches}
 use Rattle.clap.specs.declared.parser.matches.ValueSource.TheVariants.{CommandLine}
 use Rattle.command_words.specs.Words.{AreMkfsWords, AreImageWords, AreRunWords, command_word}
@@ -15,6 +17,20 @@ word_rule id = record (new_rule id) { required = true }
 -- a subcommand of this name, with these required words
 abbrev pub subcommand_shape : List ℕ → List (List ℕ) → Shape
 subcommand_shape name ids = record (new_shape name) { rules = map word_rule ids }
+
+abbrev pub run_shape : Shape
+run_shape = subcommand_shape (codes "run") (codes "volume" ∷ codes "script" ∷ codes "image" ∷ [])
+
+abbrev pub mkfs_shape : Shape
+mkfs_shape = subcommand_shape (codes "mkfs") (codes "manifest" ∷ codes "image" ∷ [])
+
+-- a subcommand on an image
+abbrev pub image_shape : List ℕ → Shape
+image_shape name = subcommand_shape name (codes "image" ∷ [])
+
+-- a parser of this shape without subcommands, of which no word holds below it too
+abbrev pub IsSubcommand : Shape → Command → Type 0
+IsSubcommand shape made = (app_of made ≡ record { top = shape; subs = [] }) × ((fields_of made).has_globals ≡ false)
 
 -- the program above its subcommands, without any help
 abbrev pub program_shape : Shape
@@ -29,11 +45,7 @@ program_shape = record (new_shape (codes "ubifs")) {
 abbrev pub program_app : App
 program_app = record {
   top = program_shape;
-  subs = subcommand_shape (codes "run") (codes "volume" ∷ codes "script" ∷ codes "image" ∷ [])
-      ∷ subcommand_shape (codes "mkfs") (codes "manifest" ∷ codes "image" ∷ [])
-      ∷ subcommand_shape (codes "check") (codes "image" ∷ [])
-      ∷ subcommand_shape (codes "dump") (codes "image" ∷ [])
-      ∷ [];
+  subs = run_shape ∷ mkfs_shape ∷ image_shape (codes "check") ∷ image_shape (codes "dump") ∷ [];
 }
 
 -- what is found for such a word

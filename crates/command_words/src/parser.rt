@@ -1,10 +1,10 @@
 // The command line as `clap` takes it apart.
 
-ghost use Rattle.std.specs.Prelude.{◌≡◌, IfOk, false, map};
+ghost use Rattle.std.specs.Prelude.{◌≡◌, IfOk, [], codes, false, true, map};
 ghost use Rattle.std.specs.String.{string_bytes};
-ghost use Rattle.clap.specs.Words.{app_of, rule_of};
+ghost use Rattle.clap.specs.Words.{Shape, app_of, rule_of, with_subcommand};
 ghost use Rattle.command_words.specs.Words.{IsInGrammar};
-ghost use Rattle.command_words.specs.Parser.{AreTakenApart, program_app, word_rule};
+ghost use Rattle.command_words.specs.Parser.{AreTakenApart, IsSubcommand, image_shape, mkfs_shape, program_app, program_shape, run_shape, word_rule};
 
 use clap::error::ErrorKind;
 use clap::{Arg, ArgMatches, Command as Parser};
@@ -30,23 +30,55 @@ pub(crate) fn parse<'a>(alloc: Global, words: &'a [String]) -> Result<ArgMatches
 fn program<'a>(alloc: Global) -> Result<Parser<'a>, AllocError>
     ensures { IfOk result (λ program. app_of program ≡ program_app) }
 {
-    let run = Parser::new(alloc, "run")
-        .arg(word(alloc, "volume"))?
-        .arg(word(alloc, "script"))?
-        .arg(word(alloc, "image"))?;
-    let mkfs = Parser::new(alloc, "mkfs")
-        .arg(word(alloc, "manifest"))?
-        .arg(word(alloc, "image"))?;
-    let check = Parser::new(alloc, "check").arg(word(alloc, "image"))?;
-    let dump = Parser::new(alloc, "dump").arg(word(alloc, "image"))?;
+    let program = with_command(bare(alloc), run(alloc))?;
+    let program = with_command(program, mkfs(alloc))?;
+    let program = with_command(program, of_image(alloc, "check"))?;
+    with_command(program, of_image(alloc, "dump"))
+}
+
+// The program without its commands.
+fn bare<'a>(alloc: Global) -> Parser<'a>
+    ensures { app_of result ≡ record { top = record program_shape { is_leaf = true }; subs = [] } }
+{
     Parser::new(alloc, "ubifs")
         .no_binary_name(true)
         .disable_help_flag(true)
         .disable_help_subcommand(true)
-        .subcommand(run)?
-        .subcommand(mkfs)?
-        .subcommand(check)?
-        .subcommand(dump)
+}
+
+// Adds a command, if there was memory for it.
+fn with_command<'a>(
+    program: Parser<'a>,
+    command: Result<Parser<'a>, AllocError>,
+) -> Result<Parser<'a>, AllocError>
+    ensures { (shape : Shape) → IfOk command.entry (IsSubcommand shape) → IfOk result (λ made. app_of made ≡ with_subcommand (app_of program.entry) shape) }
+{
+    let command = command?;
+    program.subcommand(command)
+}
+
+fn run<'a>(alloc: Global) -> Result<Parser<'a>, AllocError>
+    ensures { IfOk result (IsSubcommand run_shape) }
+{
+    Parser::new(alloc, "run")
+        .arg(word(alloc, "volume"))?
+        .arg(word(alloc, "script"))?
+        .arg(word(alloc, "image"))
+}
+
+fn mkfs<'a>(alloc: Global) -> Result<Parser<'a>, AllocError>
+    ensures { IfOk result (IsSubcommand mkfs_shape) }
+{
+    Parser::new(alloc, "mkfs")
+        .arg(word(alloc, "manifest"))?
+        .arg(word(alloc, "image"))
+}
+
+// A command on an image.
+fn of_image<'a>(alloc: Global, name: &'a str) -> Result<Parser<'a>, AllocError>
+    ensures { IfOk result (IsSubcommand (image_shape name.entry.now)) }
+{
+    Parser::new(alloc, name).arg(word(alloc, "image"))
 }
 
 // A required word.
