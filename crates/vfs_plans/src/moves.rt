@@ -5,6 +5,7 @@ ghost use Rattle.std.specs.Option.{option_to_list};
 ghost use Rattle.fs_model.specs.Rename.{comes_linked_out, moved, moving, renamed};
 ghost use Rattle.buffered_files.specs.Present.{present, IsKept};
 ghost use Rattle.vfs_plans.specs.Answers.{IsFault, IsRefused, Looks};
+ghost use Rattle.vfs_plans.specs.Parts.{lost_to};
 
 use crate::faults::or_memory;
 use crate::kinds::is_dir;
@@ -111,20 +112,37 @@ fn moved_over<B: Backing>(
     if over.ino == from.ino {
         return Ok((Reply::Done, Group::new(alloc)));
     }
+    let lost = lost_to(backing, kept, now, &from, &over)?;
+    let group = move_to(alloc, backing, kept, now, from, place, Some(lost))?;
+    Ok((Reply::Done, group))
+}
+
+// What becomes of the inode that loses its name to another entry.
+fn lost_to<B: Backing>(
+    backing: &mut B,
+    kept: &Kept,
+    now: u64,
+    from: &Entry,
+    over: &Entry,
+) -> Result<Change, Refusal>
+    requires kept { IsKept (B.state backing.old).tree kept.now }
+    ensures found { IfOk result (λ lost. lost_to (present (B.state backing.old).tree kept.now) now from.now over.now ≡ Ok lost) }
+    ensures refused { IfErr result (IsRefused (B.state backing.old) (B.state backing.new) (lost_to (present (B.state backing.old).tree kept.now) now from.now over.now)) }
+    ensures looks { Looks (B.outlook backing.old) (B.outlook backing.new) (B.state backing.old) (B.state backing.new) }
+{
     if is_dir(from.kind) && !is_dir(over.kind) {
         return Err(Refusal::Enotdir);
     }
     if !is_dir(from.kind) && is_dir(over.kind) {
         return Err(Refusal::Eisdir);
     }
-    if is_filled(backing, kept, &over)? {
+    if is_filled(backing, kept, over)? {
         return Err(Refusal::Enotempty);
     }
     match inode(backing, kept, over.ino)? {
         Some(inode) => {
-            let lost = losing(over.ino, now, inode, kept.handles.has_open(over.ino));
-            let group = move_to(alloc, backing, kept, now, from, place, Some(lost))?;
-            Ok((Reply::Done, group))
+            let held_open = kept.handles.has_open(over.ino);
+            Ok(losing(over.ino, now, inode, held_open))
         }
         None => Err(Refusal::Enoent),
     }
