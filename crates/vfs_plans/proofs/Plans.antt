@@ -5,7 +5,7 @@ use Rattle.fs_model.specs.declared.change.Change.{Change}
 use Rattle.fs_model.specs.declared.inode.Inode.{Inode}
 use Rattle.fs_model.specs.declared.inode.Entry.{Entry}
 use Rattle.fs_model.specs.declared.refusal.Refusal.{Refusal}
-use Rattle.fs_model.specs.declared.refusal.Refusal.TheVariants.{Enoent, Eexist, Enotdir, Eisdir, Enotempty, Emlink, Enfile}
+use Rattle.fs_model.specs.declared.refusal.Refusal.TheVariants.{Enoent, Eexist, Enotdir, Eisdir, Enotempty, Einval, Emlink, Enfile}
 use Rattle.fs_model.specs.declared.refusal.Table.TheVariants.{Inodes}
 use Rattle.fs_model.specs.declared.reply.Reply.{Reply}
 use Rattle.fs_model.specs.declared.reply.Reply.TheVariants.{Done, Ino}
@@ -20,7 +20,7 @@ use Rattle.fs_model.specs.Rename.{is_under, moved, moving, renamed}
 use Rattle.buffered_files.specs.declared.kept.Kept.{Kept}
 use Rattle.buffered_files.specs.Present.{IsKept}
 use Rattle.vfs_plans.specs.Answers.{IsRefused, Looks}
-use Rattle.vfs_plans.specs.Parts.{free_parent, linkable, lost_to}
+use Rattle.vfs_plans.specs.Parts.{ends_of, free_parent, linkable, lost_to}
 use Rattle.vfs_plans.proofs.Walking.{fault_later, same_tree}
 
 -- what is kept fits the tree after a look
@@ -127,11 +127,33 @@ pub moved_over_is : (files : Files) (now : ℕ) (from : Entry) (dir : ℕ) (name
 moved_over_is files now from dir name over lost group other gone is =
     moved_by files now from dir name over other ∙ ap (λ r. with_found r (λ l. Ok (Done, moving files from dir name (l ∷ []) now))) gone ∙ ap (λ g. Ok (Done, g)) (sym is)
 
--- what is renamed where nothing refuses it
-pub renamed_is : (files : Files) (now : ℕ) (old new : List ℕ) (from parent : Entry) (over : Option Entry) (plan : Reply × List Change)
+-- what follows where both ends of a move are there
+ends_then : (tree : Tree) (old new : List ℕ) (next : Entry → Entry → Plan)
+    → with_found (walked tree old) (λ from. with_found (parent_of tree new) (λ parent. refuse (is_under (components old) (components new)) Einval (next from parent))) ≡ with_found (ends_of tree old new) (λ ends. next ends.0 ends.1)
+ends_then tree old new next = by (walked tree old) (parent_of tree new) (is_under (components old) (components new))
+  where
+    pair : Entry → Entry → Result (Entry × Entry) Refusal
+    pair from parent = Ok (from, parent)
+
+    by : (a b : Result Entry Refusal) (under : Bool) → with_found a (λ from. with_found b (λ parent. refuse under Einval (next from parent)))
+        ≡ with_found (with_found a (λ from. with_found b (λ parent. refuse under Einval (pair from parent)))) (λ ends. next ends.0 ends.1)
+    by (Err refusal) b under = refl
+    by (Ok from) (Err refusal) under = refl
+    by (Ok from) (Ok parent) true = refl
+    by (Ok from) (Ok parent) false = refl
+
+-- what is not renamed, since an end of the move isn't there
+pub renamed_not : (files : Files) (now : ℕ) (old new : List ℕ) (refusal : Refusal)
+    → (is_name_path old && is_name_path new) ≡ true → (has_long_name old || has_long_name new) ≡ false → ends_of files.tree old new ≡ Err refusal → renamed files now old new ≡ Err refusal
+renamed_not files now old new refusal names short stops =
+    let next : Entry → Entry → Plan = λ from parent. moved files now from parent.ino (last_of (components new)) (entry_at files.tree parent.ino (last_of (components new))) in
+    rw (names, short) (ends_then files.tree old new next ∙ ap (λ r. with_found r (λ ends. next ends.0 ends.1)) stops)
+
+-- what is renamed where both ends of the move are there
+pub renamed_is : (files : Files) (now : ℕ) (old new : List ℕ) (from parent : Entry) (over : Option Entry) (plan : Plan)
     → (is_name_path old && is_name_path new) ≡ true → (has_long_name old || has_long_name new) ≡ false → walked files.tree old ≡ Ok from → parent_of files.tree new ≡ Ok parent
     → is_under (components old) (components new) ≡ false → entry_at files.tree parent.ino (last_of (components new)) ≡ over
-    → moved files now from parent.ino (last_of (components new)) over ≡ Ok plan → renamed files now old new ≡ Ok plan
+    → moved files now from parent.ino (last_of (components new)) over ≡ plan → renamed files now old new ≡ plan
 renamed_is files now old new from parent over plan names short there at apart is moves = rw (names, short, there, at, apart, is) moves
 
 -- what is not linked, since it can't have a further name

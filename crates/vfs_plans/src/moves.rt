@@ -1,11 +1,12 @@
 // A name is moved: rename(2).
 
-ghost use Rattle.std.specs.Prelude.{◌≡◌, Some, None, Ok, IfOk, IfErr};
+ghost use Rattle.std.specs.Prelude.{◌≡◌, false, Some, None, Ok, IfOk, IfErr};
 ghost use Rattle.std.specs.Option.{option_to_list};
-ghost use Rattle.fs_model.specs.Rename.{comes_linked_out, moved, moving, renamed};
+ghost use Rattle.fs_model.specs.Path.{components, last_of, parent_of, walked};
+ghost use Rattle.fs_model.specs.Rename.{comes_linked_out, is_under, moved, moving, renamed};
 ghost use Rattle.buffered_files.specs.Present.{present, IsKept};
 ghost use Rattle.vfs_plans.specs.Answers.{IsFault, IsRefused, Looks};
-ghost use Rattle.vfs_plans.specs.Parts.{lost_to};
+ghost use Rattle.vfs_plans.specs.Parts.{ends_of, lost_to};
 
 use crate::faults::or_memory;
 use crate::kinds::is_dir;
@@ -39,6 +40,27 @@ pub fn renamed<B: Backing>(
     if has_long_name(old) || has_long_name(new) {
         return Err(Refusal::Enametoolong);
     }
+    let (from, place) = ends_of(alloc, backing, kept, old, new)?;
+    let over = entry(backing, kept, place.parent.ino, &place.name)?;
+    let plan = moved(alloc, backing, kept, now, from, place, over)?;
+    Ok(plan)
+}
+
+// Where a name moves from and to.
+fn ends_of<B: Backing>(
+    alloc: Global,
+    backing: &mut B,
+    kept: &Kept,
+    old: &Name,
+    new: &Name,
+) -> Result<(Entry, Place), Refusal>
+    ensures from { IfOk result (λ ends. walked (present (B.state backing.old).tree kept.now).tree old.now ≡ Ok ends.0) }
+    ensures to { IfOk result (λ ends. parent_of (present (B.state backing.old).tree kept.now).tree new.now ≡ Ok ends.1.parent) }
+    ensures last { IfOk result (λ ends. ends.1.name ≡ last_of (components new.now)) }
+    ensures apart { IfOk result (λ ends. is_under (components old.now) (components new.now) ≡ false) }
+    ensures refused { IfErr result (IsRefused (B.state backing.old) (B.state backing.new) (ends_of (present (B.state backing.old).tree kept.now).tree old.now new.now)) }
+    ensures looks { Looks (B.outlook backing.old) (B.outlook backing.new) (B.state backing.old) (B.state backing.new) }
+{
     let old_names = or_memory(components(alloc, old))?;
     let new_names = or_memory(components(alloc, new))?;
     let under = is_under(&old_names, &new_names);
@@ -47,9 +69,7 @@ pub fn renamed<B: Backing>(
     if under {
         return Err(Refusal::Einval);
     }
-    let over = entry(backing, kept, place.parent.ino, &place.name)?;
-    let plan = moved(alloc, backing, kept, now, from, place, over)?;
-    Ok(plan)
+    Ok((from, place))
 }
 
 // The group that moves an entry to a place, over what stands there.
