@@ -1,4 +1,5 @@
 pub mod FewLinks
 pub mod Plans
+pub mod Removals
 pub mod Sizes
 pub mod Walking
