@@ -1,3 +1,4 @@
+pub mod Asking
 pub mod FewLinks
 pub mod Plans
 pub mod Removals
