@@ -1,4 +1,6 @@
+pub mod Asking
 pub mod FewLinks
 pub mod Plans
+pub mod Removals
 pub mod Sizes
 pub mod Walking

@@ -8,9 +8,9 @@ ghost use Rattle.buffered_files.specs.Present.{present, IsKept};
 ghost use Rattle.vfs_plans.specs.Answers.{IsFault, IsRefused, Looks};
 
 use crate::faults::or_memory;
-use crate::lookups::{entries, entry, inode};
+use crate::lookups::{entries, inode};
 use crate::place::Place;
-use crate::walks::place_of;
+use crate::walks::free_place;
 use buffered_files::{Kept, present_files_are_sound};
 use fs_model::{Backing, Group, Inode, Kind, Refusal, Reply, Table};
 use op_groups::{
@@ -97,10 +97,7 @@ pub fn made<B: Backing>(
     if has_long_name(path) {
         return Err(Refusal::Enametoolong);
     }
-    let Place { parent, name } = place_of(alloc, backing, kept, path)?;
-    if entry(backing, kept, parent.ino, &name)?.is_some() {
-        return Err(Refusal::Eexist);
-    }
+    let Place { parent, name } = free_place(alloc, backing, kept, path)?;
     if is_full(backing, kept, parent.ino, new.kind)? {
         return Err(Refusal::Emlink);
     }

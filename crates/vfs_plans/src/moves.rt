@@ -1,10 +1,12 @@
 // A name is moved: rename(2).
 
-ghost use Rattle.std.specs.Prelude.{◌≡◌, Some, None, Ok, IfOk, IfErr};
+ghost use Rattle.std.specs.Prelude.{◌≡◌, false, Some, None, Ok, IfOk, IfErr};
 ghost use Rattle.std.specs.Option.{option_to_list};
-ghost use Rattle.fs_model.specs.Rename.{comes_linked_out, moved, moving, renamed};
+ghost use Rattle.fs_model.specs.Path.{components, last_of, parent_of, walked};
+ghost use Rattle.fs_model.specs.Rename.{comes_linked_out, is_under, moved, moving, renamed};
 ghost use Rattle.buffered_files.specs.Present.{present, IsKept};
 ghost use Rattle.vfs_plans.specs.Answers.{IsFault, IsRefused, Looks};
+ghost use Rattle.vfs_plans.specs.Parts.{ends_of, lost_to};
 
 use crate::faults::or_memory;
 use crate::kinds::is_dir;
@@ -38,6 +40,27 @@ pub fn renamed<B: Backing>(
     if has_long_name(old) || has_long_name(new) {
         return Err(Refusal::Enametoolong);
     }
+    let (from, place) = ends_of(alloc, backing, kept, old, new)?;
+    let over = entry(backing, kept, place.parent.ino, &place.name)?;
+    let plan = moved(alloc, backing, kept, now, from, place, over)?;
+    Ok(plan)
+}
+
+// Where a name moves from and to.
+fn ends_of<B: Backing>(
+    alloc: Global,
+    backing: &mut B,
+    kept: &Kept,
+    old: &Name,
+    new: &Name,
+) -> Result<(Entry, Place), Refusal>
+    ensures from { IfOk result (λ ends. walked (present (B.state backing.old).tree kept.now).tree old.now ≡ Ok ends.0) }
+    ensures to { IfOk result (λ ends. parent_of (present (B.state backing.old).tree kept.now).tree new.now ≡ Ok ends.1.parent) }
+    ensures last { IfOk result (λ ends. ends.1.name ≡ last_of (components new.now)) }
+    ensures apart { IfOk result (λ ends. is_under (components old.now) (components new.now) ≡ false) }
+    ensures refused { IfErr result (IsRefused (B.state backing.old) (B.state backing.new) (ends_of (present (B.state backing.old).tree kept.now).tree old.now new.now)) }
+    ensures looks { Looks (B.outlook backing.old) (B.outlook backing.new) (B.state backing.old) (B.state backing.new) }
+{
     let old_names = or_memory(components(alloc, old))?;
     let new_names = or_memory(components(alloc, new))?;
     let under = is_under(&old_names, &new_names);
@@ -46,9 +69,7 @@ pub fn renamed<B: Backing>(
     if under {
         return Err(Refusal::Einval);
     }
-    let over = entry(backing, kept, place.parent.ino, &place.name)?;
-    let plan = moved(alloc, backing, kept, now, from, place, over)?;
-    Ok(plan)
+    Ok((from, place))
 }
 
 // The group that moves an entry to a place, over what stands there.
@@ -111,20 +132,37 @@ fn moved_over<B: Backing>(
     if over.ino == from.ino {
         return Ok((Reply::Done, Group::new(alloc)));
     }
+    let lost = lost_to(backing, kept, now, &from, &over)?;
+    let group = move_to(alloc, backing, kept, now, from, place, Some(lost))?;
+    Ok((Reply::Done, group))
+}
+
+// What becomes of the inode that loses its name to another entry.
+fn lost_to<B: Backing>(
+    backing: &mut B,
+    kept: &Kept,
+    now: u64,
+    from: &Entry,
+    over: &Entry,
+) -> Result<Change, Refusal>
+    requires kept { IsKept (B.state backing.old).tree kept.now }
+    ensures found { IfOk result (λ lost. lost_to (present (B.state backing.old).tree kept.now) now from.now over.now ≡ Ok lost) }
+    ensures refused { IfErr result (IsRefused (B.state backing.old) (B.state backing.new) (lost_to (present (B.state backing.old).tree kept.now) now from.now over.now)) }
+    ensures looks { Looks (B.outlook backing.old) (B.outlook backing.new) (B.state backing.old) (B.state backing.new) }
+{
     if is_dir(from.kind) && !is_dir(over.kind) {
         return Err(Refusal::Enotdir);
     }
     if !is_dir(from.kind) && is_dir(over.kind) {
         return Err(Refusal::Eisdir);
     }
-    if is_filled(backing, kept, &over)? {
+    if is_filled(backing, kept, over)? {
         return Err(Refusal::Enotempty);
     }
     match inode(backing, kept, over.ino)? {
         Some(inode) => {
-            let lost = losing(over.ino, now, inode, kept.handles.has_open(over.ino));
-            let group = move_to(alloc, backing, kept, now, from, place, Some(lost))?;
-            Ok((Reply::Done, group))
+            let held_open = kept.handles.has_open(over.ino);
+            Ok(losing(over.ino, now, inode, held_open))
         }
         None => Err(Refusal::Enoent),
     }

@@ -1,11 +1,14 @@
 // Paths are walked.
 
-ghost use Rattle.std.specs.Prelude.{◌≡◌, ◌⊎◌, Ok, Err, IfOk, IfErr};
+ghost use Rattle.std.specs.Prelude.{◌≡◌, ◌⊎◌, None, Ok, Err, IfOk, IfErr};
+ghost use Rattle.fs_model.specs.Files.{entry_at};
 ghost use Rattle.fs_model.specs.Path.{child, components, front_of, last_of, only_dir, parent_of, reached, root_entry, walked};
 ghost use Rattle.buffered_files.specs.Present.{present};
 ghost use Rattle.vfs_plans.specs.Answers.{IsRefused, Looks};
+ghost use Rattle.vfs_plans.specs.Parts.{free_parent};
 
 use crate::faults::or_memory;
+use crate::lookups::entry;
 use crate::place::Place;
 use buffered_files::Kept;
 use fs_model::{Backing, Entry, Kind, Refusal};
@@ -66,8 +69,8 @@ pub fn walked<B: Backing>(
     walk(alloc, backing, kept, &names)
 }
 
-/// The place of a path: the directory in which its last component stands, and that component.
-pub(crate) fn place_of<B: Backing>(
+// The place of a path: the directory in which its last component stands, and that component.
+fn place_of<B: Backing>(
     alloc: Global,
     backing: &mut B,
     kept: &Kept,
@@ -80,6 +83,26 @@ pub(crate) fn place_of<B: Backing>(
 {
     let names = or_memory(components(alloc, path))?;
     placed(alloc, backing, kept, names)
+}
+
+/// The place of a path that names nothing yet.
+pub(crate) fn free_place<B: Backing>(
+    alloc: Global,
+    backing: &mut B,
+    kept: &Kept,
+    path: &Name,
+) -> Result<Place, Refusal>
+    ensures found { IfOk result (λ place. parent_of (present (B.state backing.old).tree kept.now).tree path.now ≡ Ok place.parent) }
+    ensures last { IfOk result (λ place. place.name ≡ last_of (components path.now)) }
+    ensures free { IfOk result (λ place. entry_at (present (B.state backing.old).tree kept.now).tree place.parent.ino place.name ≡ None) }
+    ensures refused { IfErr result (IsRefused (B.state backing.old) (B.state backing.new) (free_parent (present (B.state backing.old).tree kept.now).tree path.now)) }
+    ensures looks { Looks (B.outlook backing.old) (B.outlook backing.new) (B.state backing.old) (B.state backing.new) }
+{
+    let place = place_of(alloc, backing, kept, path)?;
+    if entry(backing, kept, place.parent.ino, &place.name)?.is_some() {
+        return Err(Refusal::Eexist);
+    }
+    Ok(place)
 }
 
 /// The place to which components lead: the directory in which the last one stands, and that one.

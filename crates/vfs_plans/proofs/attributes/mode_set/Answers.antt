@@ -1,3 +1,7 @@
+use Rattle.std.proofs.Common.{rules}
+use Rattle.buffered_files.specs.Present.{present}
+use Rattle.vfs_plans.proofs.Asking.{mode_is}
+use Rattle.vfs_plans.proofs.Plans.{tree_on}
 use Rattle.vfs_plans.proofs.Walking.{looks_on}
 use Rattle.vfs_plans.proofs.attributes.mode_set.Goals as goal
 
@@ -12,3 +16,10 @@ returns-in-Some-clause-looks g c = looks_on c.found.ensures.looks c.inode.ensure
 
 pub returns-clause-looks : goal.returns-clause-looks
 returns-clause-looks g c = looks_on c.found.ensures.looks c.inode.ensures.looks
+
+pub returns-in-Some-clause-found : goal.returns-in-Some-clause-found
+returns-in-Some-clause-found g c =
+    let t1 = tree_on c.found.ensures.looks in
+    let t2 = tree_on (looks_on c.found.ensures.looks c.inode.ensures.looks) in
+    mode_is (present (g.B.Backing.state c.args.backing.now).tree c.args.kept.now) c.args.now c.args.path.now c.args.mode c.in_ok-at.at c.in-Some.inode c.in_ok-group-in-Some.group
+    (search rules) (search rules) (search rules) (search rules)
