@@ -1,6 +1,7 @@
-use Rattle.std.proofs.Common.{ℕ, ◌+◌, ◌<◌, arith, sym, subst}
+use Rattle.std.proofs.Common.{ℕ, ◌+◌, ◌<◌, arith, inl, inr, sym, subst, ◌∙◌}
 use Rattle.std.proofs.lemmas.Grind
 use native.Mathlib.Omega
+use Rattle.ubi_volume.specs.FaultLaws.{HasCause-before}
 use Rattle.ubifs_base.specs.NodeLaws.{IsBytes}
 use Rattle.small_areas.specs.Copies.{copy_of, other_leb, IsCopied, IsMasterLeb, IsMended, IsMendWritten}
 use Rattle.small_areas.proofs.BothCopies.{IsCall}
@@ -113,7 +114,10 @@ pub returns-in_err-found-clause-sure : goal.returns-in_err-found-clause-sure
 returns-in_err-found-clause-sure g c = grind (Omega.arith, Grind.common_steps) steps 2000000
 
 pub returns-clause-cause : goal.returns-clause-cause
-returns-clause-cause g c = grind (Omega.arith, Grind.common_steps) steps 2000000
+returns-clause-cause g c = HasCause-before _ _ _ _ c.in_ok-found.ensures.cause c.write_copy.ensures.cause
 
 pub returns-clause-sure : goal.returns-clause-sure
-returns-clause-sure g c = grind (Omega.arith, Grind.common_steps) steps 2000000
+returns-clause-sure g c s = elim (c.master_in.ensures.sure s) [
+  | inl gone ↦ inl (c.write_copy.ensures.works.spent gone)
+  | inr still ↦ elim (c.write_copy.ensures.sure still.0) [ inl gone ↦ inl gone | inr fine ↦ inr (fine.0, (fine.1.0 ∙ still.1.0, fine.1.1)) ]
+]
