@@ -1,7 +1,7 @@
 -- What a commit answers, over one call after another.
-use Rattle.std.proofs.Common.{◌≡◌, ◌⊎◌, ◌≤◌, ◌∙◌, ℕ, Result, Ok, Err, inl, inr, refl, arith}
+use Rattle.std.proofs.Common.{◌≤◌, ◌∙◌, ℕ, Result, Ok, Err, inl, inr, refl, arith}
 use Rattle.ubifs_base.specs.Faults.{IsCause-before}
-use Rattle.ubi_volume.specs.Volume.{VolumeState, SameShape}
+use Rattle.ubi_volume.specs.Volume.{VolumeState}
 use Rattle.ubi_volume.specs.VolumeLaws.{SameShape-then}
 use Rattle.index_commit.specs.Answers.{HasIndexCause, IsIndexAnswered}
 use Rattle.index_commit.specs.declared.index_fault.IndexFault.{IndexFault}
