@@ -13,3 +13,4 @@ pub mod Ordered
 pub mod RowRooms
 pub mod Twice
 pub mod KeysApart
+pub mod Answered

@@ -1,8 +1,8 @@
 -- A volume that is only read.
-use Rattle.std.proofs.Common.{◌≡◌, ◌∙◌, inl, inr, arith}
+use Rattle.std.proofs.Common.{◌≡◌, ◌≤◌, ℕ, ◌∙◌, inl, inr, arith}
 use Rattle.std.specs.Prelude.{Result, Ok, Err, IsErrAnd}
 use Rattle.ubi_volume.specs.Volume.{VolumeState, Keeps, SameShape}
-use Rattle.ubi_volume.specs.Faults.{StaysSureArea, IsNotVolume}
+use Rattle.ubi_volume.specs.Faults.{HasAreaCause, StaysSureArea, IsNotVolume}
 use Rattle.ubi_volume.specs.declared.fault.AreaFault.TheVariants.{Memory, Volume}
 use Rattle.ubi_volume.specs.declared.fault.AreaFault.{AreaFault}
 use Rattle.ubifs_base.specs.declared.raw_geometry.RawGeometry.{RawGeometry}
@@ -32,3 +32,8 @@ pub not_volume : {T : Type 0} (r : Result T AreaFault) → IsErrAnd r (λ e. e �
 not_volume (Ok x) h = tt
 not_volume (Err Memory) h = tt
 not_volume (Err (Volume count)) h = absurd (cc h)
+
+pub memory_cause : {T : Type 0} (old now : ℕ) (r : Result T AreaFault) → IsErrAnd r (λ e. e ≡ Memory) → old ≤ now → HasAreaCause old now r
+memory_cause old now (Ok x) h le = le
+memory_cause old now (Err Memory) h le = le
+memory_cause old now (Err (Volume count)) h le = absurd (cc h)

@@ -1,7 +1,9 @@
 -- Calls that keep all, one after another.
 use Rattle.std.proofs.Common.{◌≡◌, ◌⊎◌, inl, inr, ◌≤◌, Result, Ok, Err, refl, ◌∙◌, arith}
 use Rattle.std.specs.Prelude.{OnOk}
+use Rattle.ubi_volume.specs.Faults.{StaysSureArea}
 use Rattle.ubi_volume.specs.Volume.{VolumeState, Keeps, SameShape}
+use Rattle.ubi_volume.specs.declared.fault.AreaFault.{AreaFault}
 use Rattle.ubi_volume.specs.VolumeLaws.{Keeps-none, Keeps-then, SameShape-then}
 
 -- what calls that succeeded kept
@@ -30,3 +32,10 @@ keeps_on_then a b c X h keeps shape count sure =
         | inr still ↦ elim (sure still.0) [ inl spent ↦ inl spent | inr same ↦ inr (same.0, same.1.0 ∙ still.1) ]
       ];
     }
+
+-- a call that answers what a call in it did
+pub area_sure : {T : Type 0} (a b c : VolumeState) (r : Result T AreaFault) → KeepsOn a b → Keeps b c → StaysSureArea b c r → StaysSureArea a c r
+area_sure a b c r h keeps stays s = elim (h.sure s) [
+  | inl spent ↦ inl (keeps.spent spent)
+  | inr still ↦ elim (stays still.0) [ inl spent ↦ inl spent | inr same ↦ inr (same.0, (same.1.0 ∙ still.1, same.1.1)) ]
+]

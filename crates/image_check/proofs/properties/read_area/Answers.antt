@@ -1,4 +1,7 @@
-use Rattle.std.proofs.Common.{◌-◌, ◌∙◌, arith, rules, sym}
+use Rattle.std.proofs.Common.{◌-◌, ◌∙◌, arith, inl, inr, rules, sym}
+use Rattle.std.proofs.lemmas.Grind
+use native.Mathlib.Omega
+use Rattle.ubi_volume.specs.VolumeLaws.{Keeps-then, SameShape-then}
 use Rattle.ubifs_base.specs.Areas.{lpt_first}
 use Rattle.ubifs_base.specs.RawOf.{raw_of}
 use Rattle.lpt_area.specs.KeptLaws.{kept_next, kept_start, sure_of_one}
@@ -48,3 +51,45 @@ returns-clause-area g c =
     let count = c.requires.geometry.leb_cnt in
     let least = c.args.geometry.now.in_range.leb_cnt in
     area_is geo old.holds (c.loop-lnum.lnum - lpt_first geo) c.loop-lnum.area.items (λ k less. g.met.V.Volume.leb_len c.args.volume.now k (omega (arith, less, count, least)) ∙ sym c.requires.geometry.leb_size) (omega (arith, low, high, done, end)) before.bytes
+
+pub returns-in_err-read_leb-clause-area : goal.returns-in_err-read_leb-clause-area
+returns-in_err-read_leb-clause-area g c = grind (Omega.arith, Grind.common_steps) steps 2000000
+
+pub returns-in_err-read_leb-clause-keeps : goal.returns-in_err-read_leb-clause-keeps
+returns-in_err-read_leb-clause-keeps g c = Keeps-then _ _ _ c.loop-lnum.invariant.kept.keeps c.read_leb.ensures.keeps
+
+pub returns-in_err-read_leb-clause-shape : goal.returns-in_err-read_leb-clause-shape
+returns-in_err-read_leb-clause-shape g c = SameShape-then _ _ _ c.loop-lnum.invariant.kept.shape c.read_leb.ensures.shape
+
+pub returns-in_err-read_leb-clause-cause : goal.returns-in_err-read_leb-clause-cause
+returns-in_err-read_leb-clause-cause g c = grind (Omega.arith, Grind.common_steps) steps 2000000
+
+pub returns-in_err-read_leb-clause-sure : goal.returns-in_err-read_leb-clause-sure
+returns-in_err-read_leb-clause-sure g c = grind (Omega.arith, Grind.common_steps) steps 2000000
+
+pub returns-in_err-extend_from_slice-clause-area : goal.returns-in_err-extend_from_slice-clause-area
+returns-in_err-extend_from_slice-clause-area g c = grind (Omega.arith, Grind.common_steps) steps 2000000
+
+pub returns-in_err-extend_from_slice-clause-keeps : goal.returns-in_err-extend_from_slice-clause-keeps
+returns-in_err-extend_from_slice-clause-keeps g c = Keeps-then _ _ _ c.loop-lnum.invariant.kept.keeps c.read_leb.ensures.keeps
+
+pub returns-in_err-extend_from_slice-clause-shape : goal.returns-in_err-extend_from_slice-clause-shape
+returns-in_err-extend_from_slice-clause-shape g c = SameShape-then _ _ _ c.loop-lnum.invariant.kept.shape c.read_leb.ensures.shape
+
+pub returns-in_err-extend_from_slice-clause-cause : goal.returns-in_err-extend_from_slice-clause-cause
+returns-in_err-extend_from_slice-clause-cause g c = grind (Omega.arith, Grind.common_steps) steps 2000000
+
+pub returns-in_err-extend_from_slice-clause-sure : goal.returns-in_err-extend_from_slice-clause-sure
+returns-in_err-extend_from_slice-clause-sure g c = grind (Omega.arith, Grind.common_steps) steps 2000000
+
+pub returns-clause-keeps : goal.returns-clause-keeps
+returns-clause-keeps g c = c.loop-lnum.invariant.kept.keeps
+
+pub returns-clause-shape : goal.returns-clause-shape
+returns-clause-shape g c = c.loop-lnum.invariant.kept.shape
+
+pub returns-clause-cause : goal.returns-clause-cause
+returns-clause-cause g c = c.loop-lnum.invariant.kept.count
+
+pub returns-clause-sure : goal.returns-clause-sure
+returns-clause-sure g c = λ s. elim (c.loop-lnum.invariant.kept.sure s) [ inl gone ↦ inl gone | inr fine ↦ inr (fine.0, (fine.1, tt)) ]

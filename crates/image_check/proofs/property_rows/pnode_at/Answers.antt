@@ -1,4 +1,6 @@
 use Rattle.std.proofs.Common.{ℕ, List, [], ◌∷◌, ap, drop, subst, sym, take, ◌∙◌}
+use Rattle.std.proofs.lemmas.Grind
+use native.Mathlib.Omega
 use Rattle.ubifs_base.specs.Properties.{pnode_len}
 use Rattle.ubifs_base.specs.RawOf.{raw_of}
 use Rattle.media_lpt.specs.declared.lprop.Lprop.{Lprop}
@@ -16,3 +18,12 @@ returns-then-place-root c =
     subst E (sym c.empty_leb-then-place-root.ensures) (elsewhere_read (pnodes geo) c.args.root holds c.args.place c.args.first c.elsewhere.result c.in-Some.node.props c.sooner-then-place-root.result c.if-place-eq0.false c.if-place-root.true
     (stands_pnode geo (holds c.args.place.lnum) offs c.part-bytes.result.now c.in-Some.node bytes c.in-Some.ensures.found.0 c.in-Some.ensures.found.1)
     c.elsewhere.ensures.lnum c.elsewhere.ensures.offs c.elsewhere.ensures.wanted c.elsewhere.ensures.found c.sooner-then-place-root.ensures)
+
+pub returns-then-place-eq0 : goal.returns-then-place-eq0
+returns-then-place-eq0 c = grind (Omega.arith, Grind.common_steps) steps 2000000
+
+pub returns-in_default : goal.returns-in_default
+returns-in_default c = grind (Omega.arith, Grind.common_steps) steps 2000000
+
+pub returns : goal.returns
+returns c = grind (Omega.arith, Grind.common_steps) steps 2000000

@@ -1,4 +1,6 @@
 use Rattle.std.proofs.Common.{◌≡◌, ◌+◌, ◌-◌, ◌<◌, ℕ, List, [], rules, refl, ap, ◌∙◌, subst, arith, inl, inr, length}
+use Rattle.std.proofs.lemmas.Grind
+use native.Mathlib.Omega
 use Rattle.std.specs.Prelude.{◌⊎◌, Option, Some}
 use Rattle.ubifs_base.specs.Geometry.{index_node_len, index_nodes_per_leb}
 use Rattle.ubifs_base.specs.RawOf.{raw_of}
@@ -8,6 +10,7 @@ use Rattle.index_commit.specs.Answers.{IsIndexNotFailed}
 use Rattle.index_commit.specs.Rooms.{head_after, room_in, taken_room}
 use Rattle.index_commit.specs.Written.{AreFirstsTaken, IsHeadAfter}
 use Rattle.index_commit.specs.declared.index_at.IndexHead.{IndexHead}
+use Rattle.index_commit.proofs.Answered.{answered_none, answered_then}
 use Rattle.index_commit.proofs.Committed.{some_nodes}
 use Rattle.index_commit.proofs.Laid.{index_none, taken_fewer}
 use Rattle.index_commit.proofs.LastTaken.{none_from_none}
@@ -196,3 +199,87 @@ returns-clause-left g t c =
 
 pub returns-then-is_none-clause-left : goal.returns-then-is_none-clause-left
 returns-then-is_none-clause-left g t c = Leaves-none (g.V.Volume.state c.args.volume.now) _
+
+pub returns-then-is_none-clause-clean : goal.returns-then-is_none-clause-clean
+returns-then-is_none-clause-clean g t c = grind (Omega.arith, Grind.common_steps) steps 2000000
+
+pub returns-then-is_none-clause-end : goal.returns-then-is_none-clause-end
+returns-then-is_none-clause-end g t c = grind (Omega.arith, Grind.common_steps) steps 2000000
+
+pub returns-then-is_none-clause-answer : goal.returns-then-is_none-clause-answer
+returns-then-is_none-clause-answer g t c = answered_none _ _
+
+pub returns-then-is_none-clause-fault : goal.returns-then-is_none-clause-fault
+returns-then-is_none-clause-fault g t c = tt
+
+pub returns-then-is_none-clause-memory : goal.returns-then-is_none-clause-memory
+returns-then-is_none-clause-memory g t c = tt
+
+pub returns-then-is_none-clause-equal : goal.returns-then-is_none-clause-equal
+returns-then-is_none-clause-equal g t c = tt
+
+pub returns-in_default-clause-clean : goal.returns-in_default-clause-clean
+returns-in_default-clause-clean g t c = grind (Omega.arith, Grind.common_steps) steps 2000000
+
+pub returns-in_default-clause-none : goal.returns-in_default-clause-none
+returns-in_default-clause-none g t c = grind (Omega.arith, Grind.common_steps) steps 2000000
+
+pub returns-in_default-clause-head : goal.returns-in_default-clause-head
+returns-in_default-clause-head g t c = grind (Omega.arith, Grind.common_steps) steps 2000000
+
+pub returns-in_default-clause-end : goal.returns-in_default-clause-end
+returns-in_default-clause-end g t c = grind (Omega.arith, Grind.common_steps) steps 2000000
+
+pub returns-in_default-clause-standing : goal.returns-in_default-clause-standing
+returns-in_default-clause-standing g t c = grind (Omega.arith, Grind.common_steps) steps 2000000
+
+pub returns-in_default-clause-text : goal.returns-in_default-clause-text
+returns-in_default-clause-text g t c = grind (Omega.arith, Grind.common_steps) steps 2000000
+
+pub returns-in_default-clause-index : goal.returns-in_default-clause-index
+returns-in_default-clause-index g t c = grind (Omega.arith, Grind.common_steps) steps 2000000
+
+pub returns-in_default-clause-works : goal.returns-in_default-clause-works
+returns-in_default-clause-works g t c = grind (Omega.arith, Grind.common_steps) steps 2000000
+
+pub returns-in_default-clause-left : goal.returns-in_default-clause-left
+returns-in_default-clause-left g t c = grind (Omega.arith, Grind.common_steps) steps 2000000
+
+pub returns-in_default-clause-answer : goal.returns-in_default-clause-answer
+returns-in_default-clause-answer g t c = answered_none _ _
+
+pub returns-in_default-clause-fault : goal.returns-in_default-clause-fault
+returns-in_default-clause-fault g t c = tt
+
+pub returns-in_default-clause-memory : goal.returns-in_default-clause-memory
+returns-in_default-clause-memory g t c = tt
+
+pub returns-in_default-clause-equal : goal.returns-in_default-clause-equal
+returns-in_default-clause-equal g t c = tt
+
+pub returns-in_err-offs-clause-clean : goal.returns-in_err-offs-clause-clean
+returns-in_err-offs-clause-clean g t c = grind (Omega.arith, Grind.common_steps) steps 2000000
+
+pub returns-in_err-offs-clause-none : goal.returns-in_err-offs-clause-none
+returns-in_err-offs-clause-none g t c = grind (Omega.arith, Grind.common_steps) steps 2000000
+
+pub returns-in_err-offs-clause-head : goal.returns-in_err-offs-clause-head
+returns-in_err-offs-clause-head g t c = grind (Omega.arith, Grind.common_steps) steps 2000000
+
+pub returns-in_err-offs-clause-end : goal.returns-in_err-offs-clause-end
+returns-in_err-offs-clause-end g t c = grind (Omega.arith, Grind.common_steps) steps 2000000
+
+pub returns-in_err-offs-clause-answer : goal.returns-in_err-offs-clause-answer
+returns-in_err-offs-clause-answer g t c = grind (Omega.arith, Grind.common_steps) steps 2000000
+
+pub returns-in_err-offs-clause-fault : goal.returns-in_err-offs-clause-fault
+returns-in_err-offs-clause-fault g t c = grind (Omega.arith, Grind.common_steps) steps 2000000
+
+pub returns-in_err-offs-clause-memory : goal.returns-in_err-offs-clause-memory
+returns-in_err-offs-clause-memory g t c = grind (Omega.arith, Grind.common_steps) steps 2000000
+
+pub returns-in_err-offs-clause-equal : goal.returns-in_err-offs-clause-equal
+returns-in_err-offs-clause-equal g t c = grind (Omega.arith, Grind.common_steps) steps 2000000
+
+pub returns-clause-answer : goal.returns-clause-answer
+returns-clause-answer g t c = answered_then _ _ _ c.in_ok-offs.offs _ c.in_ok-offs.ensures.answer c.write_lebs.ensures.works.spent c.write_lebs.ensures.answer

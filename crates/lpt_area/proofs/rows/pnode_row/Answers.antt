@@ -1,11 +1,13 @@
-use Rattle.std.proofs.Common.{List, [], subst, sym, rules, length-take, length-append, length-drop, inl, inr}
-use Rattle.ubi_volume.specs.VolumeLaws.{Keeps-then}
+use Rattle.std.proofs.Common.{List, [], refl, subst, sym, arith, rules, length-take, length-append, length-drop, inl, inr}
+use Rattle.std.proofs.lemmas.Grind
+use native.Mathlib.Omega
+use Rattle.ubi_volume.specs.VolumeLaws.{Keeps-none, Keeps-then, SameShape-then}
 use Rattle.ubifs_base.specs.RawOf.{raw_of}
 use Rattle.media_lpt.specs.declared.lprop.Lprop.{Lprop}
 use Rattle.lpt_area.specs.KeptLaws.{kept_start, kept_next, sure_of_one, stays_sure}
 use Rattle.lpt_area.specs.Only.{IsOnly}
 use Rattle.lpt_area.specs.Tree.{Row, HasPnode, empty_leb}
-use Rattle.lpt_area.proofs.Kept.{not_volume}
+use Rattle.lpt_area.proofs.Kept.{memory_cause, not_volume}
 use Rattle.lpt_area.proofs.PlaceRows.{row_none}
 use Rattle.lpt_area.proofs.ReadSoFar.{read_next, read_fails}
 use Rattle.lpt_area.proofs.rows.pnode_row.Goals as goal
@@ -56,3 +58,63 @@ loop-place-preserved g c =
           (rw c.in-Some.is at c.in_ok-four.ensures.found) (search (rules, c.in_ok-extend_from_slice.ensures.items)) kept,
       search (rules, length-take, length-append, length-drop),
     )
+
+pub returns-in_err-node-clause-found : goal.returns-in_err-node-clause-found
+returns-in_err-node-clause-found g c = grind (Omega.arith, Grind.common_steps) steps 2000000
+
+pub returns-in_err-node-clause-none : goal.returns-in_err-node-clause-none
+returns-in_err-node-clause-none g c = grind (Omega.arith, Grind.common_steps) steps 2000000
+
+pub returns-in_err-node-clause-keeps : goal.returns-in_err-node-clause-keeps
+returns-in_err-node-clause-keeps g c = Keeps-none _
+
+pub returns-in_err-node-clause-cause : goal.returns-in_err-node-clause-cause
+returns-in_err-node-clause-cause g c = memory_cause _ _ _ c.from_residual.ensures.1 (omega arith)
+
+pub returns-in_err-node-clause-sure : goal.returns-in_err-node-clause-sure
+returns-in_err-node-clause-sure g c = λ s. inr (s, (refl, not_volume _ c.from_residual.ensures.1))
+
+pub returns-in_err-four-clause-found : goal.returns-in_err-four-clause-found
+returns-in_err-four-clause-found g c = grind (Omega.arith, Grind.common_steps) steps 2000000
+
+pub returns-in_err-four-clause-none : goal.returns-in_err-four-clause-none
+returns-in_err-four-clause-none g c = grind (Omega.arith, Grind.common_steps) steps 2000000
+
+pub returns-in_err-four-clause-shape : goal.returns-in_err-four-clause-shape
+returns-in_err-four-clause-shape g c = SameShape-then _ _ _ c.loop-place.invariant.0.kept.shape c.pnode_at.ensures.shape
+
+pub returns-in_err-four-clause-cause : goal.returns-in_err-four-clause-cause
+returns-in_err-four-clause-cause g c = grind (Omega.arith, Grind.common_steps) steps 2000000
+
+pub returns-in_err-four-clause-sure : goal.returns-in_err-four-clause-sure
+returns-in_err-four-clause-sure g c = grind (Omega.arith, Grind.common_steps) steps 2000000
+
+pub returns-in_default-clause-shape : goal.returns-in_default-clause-shape
+returns-in_default-clause-shape g c = SameShape-then _ _ _ c.loop-place.invariant.0.kept.shape c.pnode_at.ensures.shape
+
+pub returns-in_default-clause-cause : goal.returns-in_default-clause-cause
+returns-in_default-clause-cause g c = omega (arith, c.loop-place.invariant.0.kept.count, c.in_ok-four.ensures.cause)
+
+pub returns-in_err-extend_from_slice-clause-shape : goal.returns-in_err-extend_from_slice-clause-shape
+returns-in_err-extend_from_slice-clause-shape g c = SameShape-then _ _ _ c.loop-place.invariant.0.kept.shape c.pnode_at.ensures.shape
+
+pub returns-in_err-extend_from_slice-clause-cause : goal.returns-in_err-extend_from_slice-clause-cause
+returns-in_err-extend_from_slice-clause-cause g c = memory_cause _ _ _ c.from_residual-in_err-extend_from_slice.ensures.1 (omega (arith, c.loop-place.invariant.0.kept.count, c.in_ok-four.ensures.cause))
+
+pub returns-clause-found : goal.returns-clause-found
+returns-clause-found g c = grind (Omega.arith, Grind.common_steps) steps 2000000
+
+pub returns-clause-none : goal.returns-clause-none
+returns-clause-none g c = tt
+
+pub returns-clause-keeps : goal.returns-clause-keeps
+returns-clause-keeps g c = c.loop-place.invariant.0.kept.keeps
+
+pub returns-clause-shape : goal.returns-clause-shape
+returns-clause-shape g c = c.loop-place.invariant.0.kept.shape
+
+pub returns-clause-cause : goal.returns-clause-cause
+returns-clause-cause g c = c.loop-place.invariant.0.kept.count
+
+pub returns-clause-sure : goal.returns-clause-sure
+returns-clause-sure g c = λ s. elim (c.loop-place.invariant.0.kept.sure s) [ inl gone ↦ inl gone | inr fine ↦ inr (fine.0, (fine.1, tt)) ]

@@ -1,4 +1,6 @@
 use Rattle.std.proofs.Common.{◌+◌, ℕ, ap, ◌∙◌, subst, arith, take, ◌++◌, ◌-◌, replicate}
+use Rattle.std.proofs.lemmas.Grind
+use native.Mathlib.Omega
 use Rattle.lpt_area.specs.Written.{in_units}
 use Rattle.ubifs_base.specs.Properties.{pnode_count, tree_height}
 use Rattle.ubifs_base.specs.RawOf.{raw_of}
@@ -25,3 +27,48 @@ returns-clause-laid c =
     c.lay_pnodes-pnodes.ensures.laid levels (ap (λ (n : ℕ). root.result.offs + n) root.ensures.len) c.in_ok-lay_ltab.ensures.laid (omega (arith, size, second, first, start))
     (c.pad.ensures.front ∙ ap (λ (n : ℕ). take (at + n) c.lay_ltab.new.out ++ replicate (end - (at + n)) 255) len) (c.in_units-end.ensures.number ∙ ap (λ (n : ℕ). in_units geo.min_io (at + n)) len)
     (omega (arith, more, len)) c.in_units-end.ensures.fits
+
+pub lay_pnodes-pnodes-requires-clause-room : goal.lay_pnodes-pnodes-requires-clause-room
+lay_pnodes-pnodes-requires-clause-room c = grind (Omega.arith, Grind.common_steps) steps 2000000
+
+pub lay_levels-root-requires-clause-offs : goal.lay_levels-root-requires-clause-offs
+lay_levels-root-requires-clause-offs c = grind (Omega.arith, Grind.common_steps) steps 2000000
+
+pub lay_levels-root-requires-clause-len : goal.lay_levels-root-requires-clause-len
+lay_levels-root-requires-clause-len c = grind (Omega.arith, Grind.common_steps) steps 2000000
+
+pub lay_levels-root-requires-clause-room : goal.lay_levels-root-requires-clause-room
+lay_levels-root-requires-clause-room c = grind (Omega.arith, Grind.common_steps) steps 2000000
+
+pub overflow_add-ltab_offs : goal.overflow_add-ltab_offs
+overflow_add-ltab_offs c = grind (Omega.arith, Grind.common_steps) steps 2000000
+
+pub overflow_add-used : goal.overflow_add-used
+overflow_add-used c = grind (Omega.arith, Grind.common_steps) steps 2000000
+
+pub in_units-end-requires : goal.in_units-end-requires
+in_units-end-requires c = grind (Omega.arith, Grind.common_steps) steps 2000000
+
+pub lay_ltab-requires-clause-end : goal.lay_ltab-requires-clause-end
+lay_ltab-requires-clause-end c = grind (Omega.arith, Grind.common_steps) steps 2000000
+
+pub lay_ltab-requires-clause-fits : goal.lay_ltab-requires-clause-fits
+lay_ltab-requires-clause-fits c = grind (Omega.arith, Grind.common_steps) steps 2000000
+
+pub lay_ltab-requires-clause-place : goal.lay_ltab-requires-clause-place
+lay_ltab-requires-clause-place c = grind (Omega.arith, Grind.common_steps) steps 2000000
+
+pub lay_ltab-requires-clause-room : goal.lay_ltab-requires-clause-room
+lay_ltab-requires-clause-room c = grind (Omega.arith, Grind.common_steps) steps 2000000
+
+pub pad-requires-clause-order : goal.pad-requires-clause-order
+pad-requires-clause-order c = grind (Omega.arith, Grind.common_steps) steps 2000000
+
+pub pad-requires-clause-room : goal.pad-requires-clause-room
+pad-requires-clause-room c = grind (Omega.arith, Grind.common_steps) steps 2000000
+
+pub returns-clause-some : goal.returns-clause-some
+returns-clause-some c = grind (Omega.arith, Grind.common_steps) steps 2000000
+
+pub returns-clause-size : goal.returns-clause-size
+returns-clause-size c = grind (Omega.arith, Grind.common_steps) steps 2000000

@@ -1,4 +1,7 @@
-use Rattle.std.proofs.Common.{ℕ, ◌+◌, ◌<◌, arith, sym, subst}
+use Rattle.std.proofs.Common.{ℕ, ◌+◌, ◌<◌, arith, inl, inr, sym, subst, ◌∙◌}
+use Rattle.std.proofs.lemmas.Grind
+use native.Mathlib.Omega
+use Rattle.ubi_volume.specs.FaultLaws.{HasCause-before}
 use Rattle.ubifs_base.specs.NodeLaws.{IsBytes}
 use Rattle.small_areas.specs.Copies.{copy_of, other_leb, IsCopied, IsMasterLeb, IsMended, IsMendWritten}
 use Rattle.small_areas.proofs.BothCopies.{IsCall}
@@ -97,3 +100,24 @@ returns-clause-written g c =
     let call : IsCall b e lnum c.args.room (c.args.sqnum.now + 1) latest.master c.spell.new.node = record { spelling = c.spell.ensures.spelling; is_node = c.spell.ensures.is_node; works = c.write_copy.ensures.works } in
     on_ok c.write_copy.result (IsCopied b e lnum c.args.room (copy_of c.args.room c.spell.new.node)) (IsMendWritten a e c.args.room c.args.sqnum.now latest)
     (λ done. written_mend a b e c.spell.new.node c.args.room c.args.sqnum.now lnum latest c.master_in.ensures.keeps c.master_in.ensures.shape.leb_size c.requires.latest c.other_of-other.ensures call done) c.write_copy.ensures.done
+
+pub returns-in_err-found-clause-done : goal.returns-in_err-found-clause-done
+returns-in_err-found-clause-done g c = grind (Omega.arith, Grind.common_steps) steps 2000000
+
+pub returns-in_err-found-clause-written : goal.returns-in_err-found-clause-written
+returns-in_err-found-clause-written g c = grind (Omega.arith, Grind.common_steps) steps 2000000
+
+pub returns-in_err-found-clause-cause : goal.returns-in_err-found-clause-cause
+returns-in_err-found-clause-cause g c = grind (Omega.arith, Grind.common_steps) steps 2000000
+
+pub returns-in_err-found-clause-sure : goal.returns-in_err-found-clause-sure
+returns-in_err-found-clause-sure g c = grind (Omega.arith, Grind.common_steps) steps 2000000
+
+pub returns-clause-cause : goal.returns-clause-cause
+returns-clause-cause g c = HasCause-before _ _ _ _ c.in_ok-found.ensures.cause c.write_copy.ensures.cause
+
+pub returns-clause-sure : goal.returns-clause-sure
+returns-clause-sure g c s = elim (c.master_in.ensures.sure s) [
+  | inl gone ↦ inl (c.write_copy.ensures.works.spent gone)
+  | inr still ↦ elim (c.write_copy.ensures.sure still.0) [ inl gone ↦ inl gone | inr fine ↦ inr (fine.0, (fine.1.0 ∙ still.1.0, fine.1.1)) ]
+]
