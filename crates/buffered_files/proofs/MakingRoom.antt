@@ -11,7 +11,7 @@ use Rattle.fs_model.specs.Files.{Files, Inodes, Tree}
 use Rattle.buffered_files.specs.declared.kept.Kept.{Kept}
 use Rattle.buffered_files.specs.Alike.{IsAlike}
 use Rattle.buffered_files.specs.CallLaws.{Goes-granted, Goes-none, Goes-then, Goes-within}
-use Rattle.buffered_files.specs.Calls.{HasCommitted, HasMadeRoom, IsWithoutRoom, TellsMode, refusal_of}
+use Rattle.buffered_files.specs.Calls.{HasCommitted, HasMadeRoom, IsNotEnospc, IsWithoutRoom, TellsMode, refusal_of}
 use Rattle.buffered_files.specs.Present.{DirtyPages, covered, present}
 
 -- what holds after Ok holds where something weaker is asked
@@ -56,3 +56,9 @@ put_refused old mid new kept need (IsReadOnly why) more cause mode = mode
 -- what is put once its need was admitted at once is all that is put
 pub goes_at_once : (n : ℕ) (old mid new : BackingState) (need : Need) → mid ≡ granted old need → Goes n mid new → Goes n old new
 goes_at_once n old mid new need same goes = Goes-within (0 + n) n old new (omega arith) (Goes-then 0 n old mid new (Goes-granted 0 old old mid need (Goes-none old) same) goes)
+
+-- a fault of the backing isn't told as want of room
+pub fault_told : (T : Type 0) (fault : StoreFault) → IsNotEnospc {T = T} (Err (refusal_of fault))
+fault_told T Memory = tt
+fault_told T (Volume count) = tt
+fault_told T (IsReadOnly why) = tt

@@ -1,15 +1,16 @@
-use Rattle.std.proofs.Common.{rules, arith, ◌+◌, sym, ◌*◌, length}
+use Rattle.std.proofs.Common.{rules, arith, ◌≡◌, ◌+◌, Err, ap, subst, sym, ◌*◌, length}
 use Rattle.fs_model.specs.declared.space.Grant.{Grant}
 use Rattle.buffered_files.specs.Present.{present}
 use Rattle.buffered_files.proofs.Applied.{built_alike, bytes_alike, names_alike, alike_put}
-use Rattle.buffered_files.specs.Calls.{refusal_of}
+use Rattle.buffered_files.specs.declared.kept.Kept.{Kept}
+use Rattle.buffered_files.specs.Calls.{IsNotEnospc, refusal_of}
 use Rattle.buffered_files.specs.CutLaws.{Puts-with, Refused-none}
 use Rattle.buffered_files.specs.Cuts.{refused_fate}
 use Rattle.buffered_files.specs.Cuts.GroupFate.{WasPut}
 use Rattle.buffered_files.proofs.Cutting.{group_then}
 use Rattle.buffered_files.proofs.Growing.{admitted_failed, grows_on, not_admitted}
-use Rattle.buffered_files.proofs.MakingRoom.{goes_at_once, put_refused}
-use Rattle.buffered_files.specs.CallLaws.{Covered-then, Goes-none, Goes-then, Goes-within, fewer_closed}
+use Rattle.buffered_files.proofs.MakingRoom.{fault_told, goes_at_once, put_refused}
+use Rattle.buffered_files.specs.CallLaws.{Covered-then, Goes-none, Goes-then, Goes-within, Sure-then, fewer_closed}
 use Rattle.buffered_files.proofs.groups.apply_group.Goals as goal
 
 pub put_group-requires-clause-granted : goal.put_group-requires-clause-granted
@@ -119,3 +120,29 @@ returns-in-Err-clause-alone g c room =
 pub returns-in_err-admit-clause-alone : goal.returns-in_err-admit-clause-alone
 returns-in_err-admit-clause-alone g c room =
     goes_at_once (length c.args.group.now) (g.B.Backing.state c.args.backing.now) (g.B.Backing.state c.admit.new.backing) (g.B.Backing.state c.admit.new.backing) c.args.need.now (c.admit.ensures.covered room).1 (Goes-within 0 (length c.args.group.now) (g.B.Backing.state c.admit.new.backing) (g.B.Backing.state c.admit.new.backing) (omega arith) (Goes-none (g.B.Backing.state c.admit.new.backing)))
+
+pub returns-in-Ok-clause-sure : goal.returns-in-Ok-clause-sure
+returns-in-Ok-clause-sure g c =
+    Sure-then (g.B.Backing.outlook c.args.backing.now) (g.B.Backing.outlook c.admit.new.backing) (g.B.Backing.outlook c.put_group.new.backing) (g.B.Backing.state c.args.backing.now) (g.B.Backing.state c.admit.new.backing) (g.B.Backing.state c.put_group.new.backing) c.admit.ensures.sure c.put_group.ensures.sure
+
+pub returns-in-Err-clause-sure : goal.returns-in-Err-clause-sure
+returns-in-Err-clause-sure g c =
+    Sure-then (g.B.Backing.outlook c.args.backing.now) (g.B.Backing.outlook c.admit.new.backing) (g.B.Backing.outlook c.put_group.new.backing) (g.B.Backing.state c.args.backing.now) (g.B.Backing.state c.admit.new.backing) (g.B.Backing.state c.put_group.new.backing) c.admit.ensures.sure c.put_group.ensures.sure
+
+pub returns-in-Err-clause-at_once : goal.returns-in-Err-clause-at_once
+returns-in-Err-clause-at_once g c room = subst (λ refusal. IsNotEnospc {T = Unit {0}} (Err refusal)) (sym c.from.ensures) (fault_told (Unit {0}) c.in-Err.fault)
+
+pub returns-in-Ok-clause-issued : goal.returns-in-Ok-clause-issued
+returns-in-Ok-clause-issued g c =
+    let first = c.in_ok-admit.ensures.issued in
+    let second = c.in-Ok.ensures.issued in
+    let none = c.requires.credits in
+    omega (arith, first, second, none)
+
+pub returns-in-Err-clause-issued : goal.returns-in-Err-clause-issued
+returns-in-Err-clause-issued g c =
+    let first = c.in_ok-admit.ensures.issued in
+    let none = c.requires.credits in
+    let same : length c.put_group.new.kept.pages.dirty ≡ length c.admit.new.kept.pages.dirty = ap (λ (kept : Kept). length kept.pages.dirty) c.in-Err.ensures.same in
+    let credits = c.in-Err.ensures.files.credits in
+    omega (arith, first, none, same, credits)

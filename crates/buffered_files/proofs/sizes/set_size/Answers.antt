@@ -1,14 +1,15 @@
-use Rattle.std.proofs.Common.{Some, ap, arith, length, rules, subst, sym, ◌∙◌}
+use Rattle.std.proofs.Common.{◌≡◌, Err, Some, ap, arith, length, rules, subst, sym, ◌∙◌}
 use Rattle.fs_model.specs.declared.space.Grant.{Grant}
 use Rattle.fs_model.specs.declared.space.Need.{Need}
+use Rattle.buffered_files.specs.declared.kept.Kept.{Kept}
 use Rattle.buffered_files.specs.CallLaws.{Goes-none, Goes-within, Sure-then}
-use Rattle.buffered_files.specs.Calls.{IsWithoutRoom, WasCovered, refusal_of}
+use Rattle.buffered_files.specs.Calls.{IsNotEnospc, IsWithoutRoom, WasCovered, refusal_of}
 use Rattle.buffered_files.specs.Cuts.{refused_fate}
 use Rattle.buffered_files.specs.Cuts.GroupFate.{WasPut}
 use Rattle.buffered_files.specs.Present.{present}
 use Rattle.buffered_files.specs.Resized.{size_need}
 use Rattle.buffered_files.proofs.Growing.{not_admitted}
-use Rattle.buffered_files.proofs.MakingRoom.{goes_at_once, put_refused}
+use Rattle.buffered_files.proofs.MakingRoom.{fault_told, goes_at_once, put_refused}
 use Rattle.buffered_files.proofs.SizeAdmitted.{alike_then, asked_is, asked_modest, asked_none, covered_then, cut_then, failed_then, found_on, goes_alone, goes_then, granted_asked, grows_then, need_on, not_cut, not_goes, sized_on}
 use Rattle.buffered_files.proofs.sizes.set_size.Goals as goal
 
@@ -111,6 +112,14 @@ returns-in-Ok-clause-issued g c =
     let none = asked_none c.need_of-need.result _ c.need_of-need.ensures in
     omega (arith, first, second, none)
 
+pub returns-in-Err-clause-issued : goal.returns-in-Err-clause-issued
+returns-in-Err-clause-issued g c =
+    let first = c.in_ok-admit.ensures.issued in
+    let none = asked_none c.need_of-need.result _ c.need_of-need.ensures in
+    let same : length c.put_size.new.kept.pages.dirty ≡ length c.admit.new.kept.pages.dirty = ap (λ (kept : Kept). length kept.pages.dirty) c.in-Err.ensures.same in
+    let credits = c.in-Err.ensures.files.credits in
+    omega (arith, first, none, same, credits)
+
 pub returns-in-Ok-clause-sure : goal.returns-in-Ok-clause-sure
 returns-in-Ok-clause-sure g c =
     Sure-then (g.B.Backing.outlook c.args.backing.now) (g.B.Backing.outlook c.admit.new.backing) (g.B.Backing.outlook c.put_size.new.backing) (g.B.Backing.state c.args.backing.now) (g.B.Backing.state c.admit.new.backing) (g.B.Backing.state c.put_size.new.backing) c.admit.ensures.sure c.put_size.ensures.sure
@@ -142,3 +151,6 @@ returns-in_err-admit-clause-alone g c room =
     let asked = asked_is c.need_of-need.result c.args.old_size (present old.tree c.args.kept.now).tree c.args.ino c.args.inode c.args.size c.args.now c.need_of-need.ensures c.requires.sized in
     let need : Need = size_need (present old.tree c.args.kept.now).tree c.args.ino c.args.inode c.args.size c.args.now in
     goes_at_once need.nodes old mid mid need (granted_asked old mid c.need_of-need.result need asked room (λ fits. (c.admit.ensures.covered fits).1)) (Goes-within 0 need.nodes mid mid (omega arith) (Goes-none mid))
+
+pub returns-in-Err-clause-at_once : goal.returns-in-Err-clause-at_once
+returns-in-Err-clause-at_once g c room = subst (λ refusal. IsNotEnospc {T = Unit {0}} (Err refusal)) (sym c.from.ensures) (fault_told (Unit {0}) c.in-Err.fault)
