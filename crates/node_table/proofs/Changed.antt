@@ -58,6 +58,12 @@ reads_then a b d x r one two = record {
   sure = sure_then a b d x r two.keeps one.sure two.sure;
 }
 
+-- the same where both succeeded
+pub reads_both : {S T U : Type 0} (a b d : VolumeState) (x : S) (y : T) (z : U) → IsReadOnlyCall {T = S} a b (Ok x) → IsReadOnlyCall {T = T} b d (Ok y) → IsReadOnlyCall {T = U} a d (Ok z)
+reads_both {U = U} a b d x y z one two =
+    let then : IsReadOnlyCall {T = U} b d (Ok z) = record { keeps = two.keeps; shape = two.shape; cause = two.cause; sure = two.sure } in
+    reads_then a b d x (Ok z) one then
+
 -- an index is a row of one node at most
 node_short : (o : Option NodeView) (root : Root) → count (bare (node_before root.key o no_more)) ≡ 1
 node_short None root = refl
