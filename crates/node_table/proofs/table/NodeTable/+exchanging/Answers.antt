@@ -1,7 +1,5 @@
-use native.Mathlib.Omega
 use Rattle.std.proofs.Common.{None, Bool, true, false, List, ℕ, ◌≡◌, ◌∷◌, ◌++◌, ◌-◌, ◌<◌, [], ap, sym, refl, subst, ◌∙◌, arith, length}
 use Rattle.std.proofs.lemmas.Bool.Decides.{nat_tests}
-use Rattle.std.proofs.lemmas.Grind
 use Rattle.std.specs.Prelude.{IfOk, OnOk, slice_get}
 use Rattle.index_tree.specs.Removal.{holds}
 use Rattle.index_tree.specs.Shape.{contents, done, fits}
@@ -18,7 +16,7 @@ use Rattle.node_table.specs.UnloadedLaws.{first_stands}
 use Rattle.node_table.specs.Walk.{inside}
 use Rattle.table_nodes.specs.declared.link.Link.{Link}
 use Rattle.table_nodes.specs.declared.link.Link.TheVariants.{ToNode}
-use Rattle.node_table.proofs.Changed.{reads_both, reads_then}
+use Rattle.node_table.proofs.Changed.{reads_both, reads_failed, reads_then, reads_wanting}
 use Rattle.node_table.proofs.Exchanged.{lower_inside, behind_bounded, found_outside, found_inside, other_leaf, none_among, among_out, among_taken, among_below, among_beside, among_on, rest_kept, below_stays, below_gone, below_left, left_sound}
 use Rattle.node_table.proofs.Exchanged.{links_to_standing, root_link, standing_through}
 use Rattle.node_table.proofs.Inserted.{first_there, rest_fits, row_kept, made_row, row_standing}
@@ -475,7 +473,11 @@ pub exchange_below-returns-in_err-exchange_among-clause-fanout : goal.exchange_b
 exchange_below-returns-in_err-exchange_among-clause-fanout g t c = c.exchange_among.ensures.fanout ∙ c.in_ok-node.ensures.fanout
 
 pub exchange_below-returns-in_err-exchange_among-clause-reads : goal.exchange_below-returns-in_err-exchange_among-clause-reads
-exchange_below-returns-in_err-exchange_among-clause-reads g t c = grind (Omega.arith, Grind.common_steps) steps 2000000
+exchange_below-returns-in_err-exchange_among-clause-reads g t c =
+    let a = g.V.Volume.state c.args.volume.now in
+    let b = g.V.Volume.state c.opened_copy.new.volume in
+    let d = g.V.Volume.state c.exchange_among.new.volume in
+    reads_failed a b d c.in_ok-node.node c.in_err-exchange_among.field-0.0 c.from_residual-in_err-exchange_among.result c.from_residual-in_err-exchange_among.ensures.1 c.in_ok-node.ensures.reads c.in_err-exchange_among.ensures.reads
 
 pub exchange_below-returns-then-is_empty-clause-found : goal.exchange_below-returns-then-is_empty-clause-found
 exchange_below-returns-then-is_empty-clause-found g t c =
@@ -526,7 +528,11 @@ pub exchange_below-returns-in_err-push-clause-fanout : goal.exchange_below-retur
 exchange_below-returns-in_err-push-clause-fanout g t c = c.take_back-2.ensures.fanout ∙ c.exchange_among.ensures.fanout ∙ c.in_ok-node.ensures.fanout
 
 pub exchange_below-returns-in_err-push-clause-reads : goal.exchange_below-returns-in_err-push-clause-reads
-exchange_below-returns-in_err-push-clause-reads g t c = grind (Omega.arith, Grind.common_steps) steps 2000000
+exchange_below-returns-in_err-push-clause-reads g t c =
+    let a = g.V.Volume.state c.args.volume.now in
+    let b = g.V.Volume.state c.opened_copy.new.volume in
+    let d = g.V.Volume.state c.exchange_among.new.volume in
+    reads_wanting a d true c.from_residual-in_err-push.result c.from_residual-in_err-push.ensures.1 (reads_both a b d c.in_ok-node.node _ true c.in_ok-node.ensures.reads c.in_ok-exchange_among.ensures.reads)
 
 pub exchange_below-returns-clause-found : goal.exchange_below-returns-clause-found
 exchange_below-returns-clause-found g t c =
@@ -556,3 +562,10 @@ exchange_among-returns-then-begin_within-clause-reads g t c =
     let b = g.V.Volume.state c.exchange_below.new.volume in
     let d = g.V.Volume.state c.exchange_among-then-begin_within.new.volume in
     reads_then a b d _ c.exchange_among-then-begin_within.result c.in_ok-exchange_below-in-ToNode.ensures.reads c.exchange_among-then-begin_within.ensures.reads
+
+pub exchange_below-returns-in_err-push_node-clause-reads : goal.exchange_below-returns-in_err-push_node-clause-reads
+exchange_below-returns-in_err-push_node-clause-reads g t c =
+    let a = g.V.Volume.state c.args.volume.now in
+    let b = g.V.Volume.state c.opened_copy.new.volume in
+    let d = g.V.Volume.state c.exchange_among.new.volume in
+    reads_wanting a d true c.from_residual-in_err-push_node.result c.from_residual-in_err-push_node.ensures.1 (reads_both a b d c.in_ok-node.node _ true c.in_ok-node.ensures.reads c.in_ok-exchange_among.ensures.reads)

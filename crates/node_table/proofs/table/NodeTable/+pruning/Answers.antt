@@ -1,7 +1,5 @@
-use native.Mathlib.Omega
 use Rattle.std.proofs.Common.{ℕ, true, List, ◌≡◌, ◌∷◌, ◌++◌, ◌-◌, ◌^◌, ◌<◌, [], ap, sym, refl, subst, ◌∙◌, arith, length}
 use Rattle.std.proofs.lemmas.Bool.Decides.{nat_tests}
-use Rattle.std.proofs.lemmas.Grind
 use Rattle.std.specs.Prelude.{IfOk, OnOk, min, slice_get}
 use Rattle.index_tree.specs.RangeRemoval.{within_range}
 use Rattle.index_tree.specs.Shape.{contents, done, fits}
@@ -18,7 +16,7 @@ use Rattle.node_table.specs.StandingLinks.{standing_both, standing_none, standin
 use Rattle.node_table.specs.Unloaded.{AreStandingLinks}
 use Rattle.node_table.specs.UnloadedLaws.{first_stands, others_stand}
 use Rattle.node_table.specs.Walk.{inside}
-use Rattle.node_table.proofs.Changed.{reads_both}
+use Rattle.node_table.proofs.Changed.{reads_both, reads_failed, reads_wanting}
 use Rattle.node_table.proofs.Exchanged.{behind_bounded, rest_kept, left_sound}
 use Rattle.node_table.proofs.Inserted.{first_there, rest_there, rest_fits, row_kept, made_row}
 use Rattle.node_table.proofs.Pruned.{link_lower, links_higher, range_apart, range_behind, range_inside, both_gone, none_gone, some_gone, among_passed, among_last, among_more, leaf_stays, below_same, below_emptied, below_left}
@@ -376,7 +374,11 @@ pub prune_below-returns-in_err-gone-clause-fanout : goal.prune_below-returns-in_
 prune_below-returns-in_err-gone-clause-fanout g t c = c.prune_among.ensures.fanout ∙ c.in_ok-node.ensures.fanout
 
 pub prune_below-returns-in_err-gone-clause-reads : goal.prune_below-returns-in_err-gone-clause-reads
-prune_below-returns-in_err-gone-clause-reads g t c = grind (Omega.arith, Grind.common_steps) steps 2000000
+prune_below-returns-in_err-gone-clause-reads g t c =
+    let a = g.V.Volume.state c.args.volume.now in
+    let b = g.V.Volume.state c.opened_copy.new.volume in
+    let d = g.V.Volume.state c.prune_among.new.volume in
+    reads_failed a b d c.in_ok-node.node c.in_err-gone.field-0.0 c.from_residual-in_err-gone.result c.from_residual-in_err-gone.ensures.1 c.in_ok-node.ensures.reads c.in_err-gone.ensures.reads
 
 pub prune_below-returns-in_err-push-clause-fanout : goal.prune_below-returns-in_err-push-clause-fanout
 prune_below-returns-in_err-push-clause-fanout g t c = c.take_back.ensures.fanout ∙ c.prune_among.ensures.fanout ∙ c.in_ok-node.ensures.fanout
@@ -463,3 +465,26 @@ prune_among-returns-in_ok-behind-in-Some-clause-reads g t c =
     let b = g.V.Volume.state c.prune_link.new.volume in
     let d = g.V.Volume.state c.prune_among-in-Some.new.volume in
     reads_both a b d c.in_ok-here-in-Some.here c.in_ok-behind-in-Some.behind _ c.in_ok-here-in-Some.ensures.reads c.in_ok-behind-in-Some.ensures.reads
+
+pub prune_below-returns-in_err-push-clause-reads : goal.prune_below-returns-in_err-push-clause-reads
+prune_below-returns-in_err-push-clause-reads g t c =
+    let a = g.V.Volume.state c.args.volume.now in
+    let b = g.V.Volume.state c.opened_copy.new.volume in
+    let d = g.V.Volume.state c.prune_among.new.volume in
+    let gone = c.in_ok-gone.gone in
+    reads_wanting a d gone c.from_residual-in_err-push.result c.from_residual-in_err-push.ensures.1 (reads_both a b d c.in_ok-node.node gone gone c.in_ok-node.ensures.reads c.in_ok-gone.ensures.reads)
+
+pub prune_below-returns-in_err-push_node-clause-reads : goal.prune_below-returns-in_err-push_node-clause-reads
+prune_below-returns-in_err-push_node-clause-reads g t c =
+    let a = g.V.Volume.state c.args.volume.now in
+    let b = g.V.Volume.state c.opened_copy.new.volume in
+    let d = g.V.Volume.state c.prune_among.new.volume in
+    let gone = c.in_ok-gone.gone in
+    reads_wanting a d gone c.from_residual-in_err-push_node.result c.from_residual-in_err-push_node.ensures.1 (reads_both a b d c.in_ok-node.node gone gone c.in_ok-node.ensures.reads c.in_ok-gone.ensures.reads)
+
+pub prune_among-returns-in_err-behind-in-Some-clause-reads : goal.prune_among-returns-in_err-behind-in-Some-clause-reads
+prune_among-returns-in_err-behind-in-Some-clause-reads g t c =
+    let a = g.V.Volume.state c.args.volume.now in
+    let b = g.V.Volume.state c.prune_link.new.volume in
+    let d = g.V.Volume.state c.prune_among-in-Some.new.volume in
+    reads_failed a b d c.in_ok-here-in-Some.here c.in_err-behind-in-Some.field-0.0 c.from_residual-in_err-behind-in-Some.result c.from_residual-in_err-behind-in-Some.ensures.1 c.in_ok-here-in-Some.ensures.reads c.in_err-behind-in-Some.ensures.reads
