@@ -1,6 +1,7 @@
 -- Changes are made one after another.
-use Rattle.std.proofs.Common.{◌≡◌, ℕ, zero, suc, ◌+◌, ◌<◌, ◌≤◌, false, List, [], ◌∷◌, ◌++◌, length, take, refl, ap, sym, ◌∙◌, arith, inl, inr}
-use Rattle.std.specs.Prelude.{get_or, slice_get, Option, None, Some, Result, Ok}
+use Rattle.std.proofs.Common.{◌≡◌, ℕ, zero, suc, ◌+◌, ◌<◌, ◌≤◌, false, List, [], ◌∷◌, ◌++◌, length, take, refl, ap, sym, subst, ◌∙◌, arith, inl, inr}
+use Rattle.std.specs.Prelude.{get_or, slice_get, Option, None, Some, Result, Ok, Err}
+use Rattle.std.specs.Result.{IsErrAnd}
 use Rattle.std.proofs.lemmas.Bool.{cases_Bool}
 use Rattle.std.proofs.lemmas.List.{take_more}
 use Rattle.node_cache.specs.Loaded.{IsReadOnlyCall}
@@ -9,6 +10,7 @@ use Rattle.ubi_volume.specs.Faults.{StaysSureArea}
 use Rattle.ubi_volume.specs.Volume.{VolumeState, Keeps}
 use Rattle.ubi_volume.specs.VolumeLaws.{Keeps-then, SameShape-then}
 use Rattle.ubi_volume.specs.declared.fault.AreaFault.{AreaFault}
+use Rattle.ubi_volume.specs.declared.fault.AreaFault.TheVariants.{Memory}
 use Rattle.index_tree.specs.Removal.{same_leaf, holds, without}
 use Rattle.index_tree.specs.Shape.{contents, count}
 use Rattle.index_tree.specs.declared.leaf.Leaf.{Leaf}
@@ -57,6 +59,26 @@ reads_then a b d x r one two = record {
   cause = HasAreaCause-before a.faults b.faults d.faults r one.cause two.cause;
   sure = sure_then a b d x r two.keeps one.sure two.sure;
 }
+
+-- the same where both succeeded
+pub reads_both : {S T U : Type 0} (a b d : VolumeState) (x : S) (y : T) (z : U) → IsReadOnlyCall {T = S} a b (Ok x) → IsReadOnlyCall {T = T} b d (Ok y) → IsReadOnlyCall {T = U} a d (Ok z)
+reads_both {U = U} a b d x y z one two =
+    let then : IsReadOnlyCall {T = U} b d (Ok z) = record { keeps = two.keeps; shape = two.shape; cause = two.cause; sure = two.sure } in
+    reads_then a b d x (Ok z) one then
+
+-- the same where the second one's fault is handed on
+pub reads_failed : {S T U : Type 0} (a b d : VolumeState) (x : S) (fault : AreaFault) (r : Result U AreaFault) → IsErrAnd r (λ y. y ≡ fault) → IsReadOnlyCall {T = S} a b (Ok x) → IsReadOnlyCall {T = T} b d (Err fault) → IsReadOnlyCall {T = U} a d r
+reads_failed a b d x fault (Ok z) e one two = absurd e
+reads_failed {U = U} a b d x fault (Err y) e one two =
+    let P : AreaFault → Type 0 = λ f. IsReadOnlyCall {T = U} b d (Err f) in
+    reads_then a b d x (Err y) one (subst P (sym e) (record { keeps = two.keeps; shape = two.shape; cause = two.cause; sure = two.sure }))
+
+-- a call that only read the volume, behind which memory was wanting
+pub reads_wanting : {S U : Type 0} (a b : VolumeState) (x : S) (r : Result U AreaFault) → IsErrAnd r (λ y. y ≡ Memory) → IsReadOnlyCall {T = S} a b (Ok x) → IsReadOnlyCall {T = U} a b r
+reads_wanting a b x (Ok z) e one = absurd e
+reads_wanting {U = U} a b x (Err y) e one =
+    let P : AreaFault → Type 0 = λ f. IsReadOnlyCall {T = U} a b (Err f) in
+    subst P (sym e) (record { keeps = one.keeps; shape = one.shape; cause = one.cause; sure = one.sure })
 
 -- an index is a row of one node at most
 node_short : (o : Option NodeView) (root : Root) → count (bare (node_before root.key o no_more)) ≡ 1

@@ -3,6 +3,7 @@ use Rattle.index_media.specs.PlacedRow.{PlacedRow, branches_of, plain}
 use Rattle.media_sys.specs.Index.{Index}
 use Rattle.node_cache.specs.RowsOn.{row_moved, first_node, below}
 use Rattle.node_table.specs.Counting.{AreCountsOf}
+use Rattle.node_table.proofs.Changed.{reads_both, reads_failed, reads_wanting}
 use Rattle.node_table.proofs.VolumeCounts.{over_counts, beside_counts, leaves_counts, no_counts}
 use Rattle.node_table.proofs.volume_counting.+walking.Goals as goal
 
@@ -79,3 +80,45 @@ count_among-returns-in_ok-counts-in-Some-clause-counted g t c row e on =
     let there = c.in_ok-others-in-Some.ensures.counted p.others p.branches (row_moved a b f c.args.levels p.others made.reads.keeps made.reads.shape p.on) in
     let P : PlacedRow → Type 0 = λ r. AreCountsOf f (plain r) c.in_ok-counts-in-Some.counts in
     subst P (sym p.is) (beside_counts f branch p.children p.others c.in_ok-first-in-Some.first c.in_ok-others-in-Some.others c.in_ok-counts-in-Some.counts here there c.in_ok-counts-in-Some.ensures.nodes c.in_ok-counts-in-Some.ensures.weight)
+
+pub count_below-returns-in_err-below-clause-reads : goal.count_below-returns-in_err-below-clause-reads
+count_below-returns-in_err-below-clause-reads g t c =
+    let a = g.V.Volume.state c.args.volume.now in
+    let b = g.V.Volume.state c.read_node.new.volume in
+    let d = g.V.Volume.state c.count_among.new.volume in
+    reads_failed a b d c.in_ok-node.node c.in_err-below.field-0.0 c.from_residual-in_err-below.result c.from_residual-in_err-below.ensures.1 c.in_ok-node.ensures.reads c.in_err-below.ensures.reads
+
+pub count_below-returns-in_err-counts-clause-reads : goal.count_below-returns-in_err-counts-clause-reads
+count_below-returns-in_err-counts-clause-reads g t c =
+    let a = g.V.Volume.state c.args.volume.now in
+    let b = g.V.Volume.state c.read_node.new.volume in
+    let d = g.V.Volume.state c.count_among.new.volume in
+    reads_wanting a d c.in_ok-below.below c.from_residual-in_err-counts.result c.from_residual-in_err-counts.ensures.1 (reads_both a b d c.in_ok-node.node c.in_ok-below.below c.in_ok-below.below c.in_ok-node.ensures.reads c.in_ok-below.ensures.reads)
+
+pub count_below-returns-clause-reads : goal.count_below-returns-clause-reads
+count_below-returns-clause-reads g t c =
+    let a = g.V.Volume.state c.args.volume.now in
+    let b = g.V.Volume.state c.read_node.new.volume in
+    let d = g.V.Volume.state c.count_among.new.volume in
+    reads_both a b d c.in_ok-node.node c.in_ok-below.below c.in_ok-counts.counts c.in_ok-node.ensures.reads c.in_ok-below.ensures.reads
+
+pub count_among-returns-in_err-others-in-Some-clause-reads : goal.count_among-returns-in_err-others-in-Some-clause-reads
+count_among-returns-in_err-others-in-Some-clause-reads g t c =
+    let a = g.V.Volume.state c.args.volume.now in
+    let b = g.V.Volume.state c.count_below.new.volume in
+    let d = g.V.Volume.state c.count_among.new.volume in
+    reads_failed a b d c.in_ok-first-in-Some.first c.in_err-others-in-Some.field-0.0 c.from_residual-in_err-others-in-Some.result c.from_residual-in_err-others-in-Some.ensures.1 c.in_ok-first-in-Some.ensures.reads c.in_err-others-in-Some.ensures.reads
+
+pub count_among-returns-in_err-counts-in-Some-clause-reads : goal.count_among-returns-in_err-counts-in-Some-clause-reads
+count_among-returns-in_err-counts-in-Some-clause-reads g t c =
+    let a = g.V.Volume.state c.args.volume.now in
+    let b = g.V.Volume.state c.count_below.new.volume in
+    let d = g.V.Volume.state c.count_among.new.volume in
+    reads_wanting a d c.in_ok-others-in-Some.others c.from_residual-in_err-counts-in-Some.result c.from_residual-in_err-counts-in-Some.ensures.1 (reads_both a b d c.in_ok-first-in-Some.first c.in_ok-others-in-Some.others c.in_ok-others-in-Some.others c.in_ok-first-in-Some.ensures.reads c.in_ok-others-in-Some.ensures.reads)
+
+pub count_among-returns-in_ok-counts-in-Some-clause-reads : goal.count_among-returns-in_ok-counts-in-Some-clause-reads
+count_among-returns-in_ok-counts-in-Some-clause-reads g t c =
+    let a = g.V.Volume.state c.args.volume.now in
+    let b = g.V.Volume.state c.count_below.new.volume in
+    let d = g.V.Volume.state c.count_among.new.volume in
+    reads_both a b d c.in_ok-first-in-Some.first c.in_ok-others-in-Some.others c.in_ok-counts-in-Some.counts c.in_ok-first-in-Some.ensures.reads c.in_ok-others-in-Some.ensures.reads

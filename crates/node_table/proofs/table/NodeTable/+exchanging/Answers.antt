@@ -16,6 +16,7 @@ use Rattle.node_table.specs.UnloadedLaws.{first_stands}
 use Rattle.node_table.specs.Walk.{inside}
 use Rattle.table_nodes.specs.declared.link.Link.{Link}
 use Rattle.table_nodes.specs.declared.link.Link.TheVariants.{ToNode}
+use Rattle.node_table.proofs.Changed.{reads_both, reads_failed, reads_then, reads_wanting}
 use Rattle.node_table.proofs.Exchanged.{lower_inside, behind_bounded, found_outside, found_inside, other_leaf, none_among, among_out, among_taken, among_below, among_beside, among_on, rest_kept, below_stays, below_gone, below_left, left_sound}
 use Rattle.node_table.proofs.Exchanged.{links_to_standing, root_link, standing_through}
 use Rattle.node_table.proofs.Inserted.{first_there, rest_fits, row_kept, made_row, row_standing}
@@ -464,3 +465,107 @@ exchange_below-returns-clause-same g t c = λ none.
     let old = c.args.self.now.nodes.items in
     let same = c.len-number.ensures in
     c.take_back-2.ensures.nodes old (added_both old c.opened_copy.new.self.nodes.items c.exchange_among.new.self.nodes.items c.opened_copy.ensures.added c.exchange_among.ensures.added) (omega (arith, same))
+
+pub exchange_below-returns-in_err-exchange_among-clause-added : goal.exchange_below-returns-in_err-exchange_among-clause-added
+exchange_below-returns-in_err-exchange_among-clause-added g t c = added_both c.args.self.now.nodes.items c.opened_copy.new.self.nodes.items c.exchange_among.new.self.nodes.items c.in_ok-node.ensures.added c.exchange_among.ensures.added
+
+pub exchange_below-returns-in_err-exchange_among-clause-fanout : goal.exchange_below-returns-in_err-exchange_among-clause-fanout
+exchange_below-returns-in_err-exchange_among-clause-fanout g t c = c.exchange_among.ensures.fanout ∙ c.in_ok-node.ensures.fanout
+
+pub exchange_below-returns-in_err-exchange_among-clause-reads : goal.exchange_below-returns-in_err-exchange_among-clause-reads
+exchange_below-returns-in_err-exchange_among-clause-reads g t c =
+    let a = g.V.Volume.state c.args.volume.now in
+    let b = g.V.Volume.state c.opened_copy.new.volume in
+    let d = g.V.Volume.state c.exchange_among.new.volume in
+    reads_failed a b d c.in_ok-node.node c.in_err-exchange_among.field-0.0 c.from_residual-in_err-exchange_among.result c.from_residual-in_err-exchange_among.ensures.1 c.in_ok-node.ensures.reads c.in_err-exchange_among.ensures.reads
+
+pub exchange_below-returns-then-is_empty-clause-found : goal.exchange_below-returns-then-is_empty-clause-found
+exchange_below-returns-then-is_empty-clause-found g t c =
+    let gone = c.args.gone.now in
+    let children = c.in_ok-node.ensures.children ∙ ap (row_of (node_views c.opened_copy.new.self.nodes.items)) (sym c.as_slice.ensures.value) in
+    sym c.if-branch.true ∙ c.in_ok-exchange_among.ensures.found ∙ sym (ap (λ (r : KeyedRow). holds gone (contents (bare r))) children)
+
+pub exchange_below-returns-then-is_empty-clause-fanout : goal.exchange_below-returns-then-is_empty-clause-fanout
+exchange_below-returns-then-is_empty-clause-fanout g t c = c.take_back.ensures.fanout ∙ c.exchange_among.ensures.fanout ∙ c.in_ok-node.ensures.fanout
+
+pub exchange_below-returns-then-is_empty-clause-reads : goal.exchange_below-returns-then-is_empty-clause-reads
+exchange_below-returns-then-is_empty-clause-reads g t c =
+    let a = g.V.Volume.state c.args.volume.now in
+    let b = g.V.Volume.state c.opened_copy.new.volume in
+    let d = g.V.Volume.state c.exchange_among.new.volume in
+    reads_both a b d c.in_ok-node.node _ true c.in_ok-node.ensures.reads c.in_ok-exchange_among.ensures.reads
+
+pub exchange_below-returns-in_err-push_node-clause-added : goal.exchange_below-returns-in_err-push_node-clause-added
+exchange_below-returns-in_err-push_node-clause-added g t c =
+    added_both c.args.self.now.nodes.items c.exchange_among.new.self.nodes.items c.push_node.new.self.nodes.items
+    (added_both c.args.self.now.nodes.items c.opened_copy.new.self.nodes.items c.exchange_among.new.self.nodes.items c.in_ok-node.ensures.added c.exchange_among.ensures.added) c.push_node.ensures.added
+
+pub exchange_below-returns-in_err-push_node-clause-fanout : goal.exchange_below-returns-in_err-push_node-clause-fanout
+exchange_below-returns-in_err-push_node-clause-fanout g t c = c.push_node.ensures.fanout ∙ c.exchange_among.ensures.fanout ∙ c.in_ok-node.ensures.fanout
+
+pub exchange_below-returns-then-branch-clause-found : goal.exchange_below-returns-then-branch-clause-found
+exchange_below-returns-then-branch-clause-found g t c =
+    let gone = c.args.gone.now in
+    let children = c.in_ok-node.ensures.children ∙ ap (row_of (node_views c.opened_copy.new.self.nodes.items)) (sym c.as_slice.ensures.value) in
+    sym c.if-branch.true ∙ c.in_ok-exchange_among.ensures.found ∙ sym (ap (λ (r : KeyedRow). holds gone (contents (bare r))) children)
+
+pub exchange_below-returns-then-branch-clause-added : goal.exchange_below-returns-then-branch-clause-added
+exchange_below-returns-then-branch-clause-added g t c =
+    added_both c.args.self.now.nodes.items c.exchange_among.new.self.nodes.items c.push_node.new.self.nodes.items
+    (added_both c.args.self.now.nodes.items c.opened_copy.new.self.nodes.items c.exchange_among.new.self.nodes.items c.in_ok-node.ensures.added c.exchange_among.ensures.added) c.push_node.ensures.added
+
+pub exchange_below-returns-then-branch-clause-fanout : goal.exchange_below-returns-then-branch-clause-fanout
+exchange_below-returns-then-branch-clause-fanout g t c = c.push_node.ensures.fanout ∙ c.exchange_among.ensures.fanout ∙ c.in_ok-node.ensures.fanout
+
+pub exchange_below-returns-then-branch-clause-reads : goal.exchange_below-returns-then-branch-clause-reads
+exchange_below-returns-then-branch-clause-reads g t c =
+    let a = g.V.Volume.state c.args.volume.now in
+    let b = g.V.Volume.state c.opened_copy.new.volume in
+    let d = g.V.Volume.state c.exchange_among.new.volume in
+    reads_both a b d c.in_ok-node.node _ true c.in_ok-node.ensures.reads c.in_ok-exchange_among.ensures.reads
+
+pub exchange_below-returns-in_err-push-clause-fanout : goal.exchange_below-returns-in_err-push-clause-fanout
+exchange_below-returns-in_err-push-clause-fanout g t c = c.take_back-2.ensures.fanout ∙ c.exchange_among.ensures.fanout ∙ c.in_ok-node.ensures.fanout
+
+pub exchange_below-returns-in_err-push-clause-reads : goal.exchange_below-returns-in_err-push-clause-reads
+exchange_below-returns-in_err-push-clause-reads g t c =
+    let a = g.V.Volume.state c.args.volume.now in
+    let b = g.V.Volume.state c.opened_copy.new.volume in
+    let d = g.V.Volume.state c.exchange_among.new.volume in
+    reads_wanting a d true c.from_residual-in_err-push.result c.from_residual-in_err-push.ensures.1 (reads_both a b d c.in_ok-node.node _ true c.in_ok-node.ensures.reads c.in_ok-exchange_among.ensures.reads)
+
+pub exchange_below-returns-clause-found : goal.exchange_below-returns-clause-found
+exchange_below-returns-clause-found g t c =
+    let gone = c.args.gone.now in
+    let children = c.in_ok-node.ensures.children ∙ ap (row_of (node_views c.opened_copy.new.self.nodes.items)) (sym c.as_slice.ensures.value) in
+    sym c.if-branch.false ∙ c.in_ok-exchange_among.ensures.found ∙ sym (ap (λ (r : KeyedRow). holds gone (contents (bare r))) children)
+
+pub exchange_below-returns-clause-fanout : goal.exchange_below-returns-clause-fanout
+exchange_below-returns-clause-fanout g t c = c.take_back-2.ensures.fanout ∙ c.exchange_among.ensures.fanout ∙ c.in_ok-node.ensures.fanout
+
+pub exchange_below-returns-clause-reads : goal.exchange_below-returns-clause-reads
+exchange_below-returns-clause-reads g t c =
+    let a = g.V.Volume.state c.args.volume.now in
+    let b = g.V.Volume.state c.opened_copy.new.volume in
+    let d = g.V.Volume.state c.exchange_among.new.volume in
+    reads_both a b d c.in_ok-node.node _ false c.in_ok-node.ensures.reads c.in_ok-exchange_among.ensures.reads
+
+pub exchange_among-returns-then-begin_within-clause-added : goal.exchange_among-returns-then-begin_within-clause-added
+exchange_among-returns-then-begin_within-clause-added g t c = added_both c.args.self.now.nodes.items c.exchange_below.new.self.nodes.items c.exchange_among-then-begin_within.new.self.nodes.items c.in_ok-exchange_below-in-ToNode.ensures.added c.exchange_among-then-begin_within.ensures.added
+
+pub exchange_among-returns-then-begin_within-clause-fanout : goal.exchange_among-returns-then-begin_within-clause-fanout
+exchange_among-returns-then-begin_within-clause-fanout g t c = c.exchange_among-then-begin_within.ensures.fanout ∙ c.in_ok-exchange_below-in-ToNode.ensures.fanout
+
+pub exchange_among-returns-then-begin_within-clause-reads : goal.exchange_among-returns-then-begin_within-clause-reads
+exchange_among-returns-then-begin_within-clause-reads g t c =
+    let a = g.V.Volume.state c.args.volume.now in
+    let b = g.V.Volume.state c.exchange_below.new.volume in
+    let d = g.V.Volume.state c.exchange_among-then-begin_within.new.volume in
+    reads_then a b d _ c.exchange_among-then-begin_within.result c.in_ok-exchange_below-in-ToNode.ensures.reads c.exchange_among-then-begin_within.ensures.reads
+
+pub exchange_below-returns-in_err-push_node-clause-reads : goal.exchange_below-returns-in_err-push_node-clause-reads
+exchange_below-returns-in_err-push_node-clause-reads g t c =
+    let a = g.V.Volume.state c.args.volume.now in
+    let b = g.V.Volume.state c.opened_copy.new.volume in
+    let d = g.V.Volume.state c.exchange_among.new.volume in
+    reads_wanting a d true c.from_residual-in_err-push_node.result c.from_residual-in_err-push_node.ensures.1 (reads_both a b d c.in_ok-node.node _ true c.in_ok-node.ensures.reads c.in_ok-exchange_among.ensures.reads)

@@ -13,6 +13,7 @@ use Rattle.node_table.specs.Staging.{insertion_passes}
 use Rattle.node_table.specs.StandingLinks.{standing_none, standing_on}
 use Rattle.node_table.specs.Unloaded.{AreStandingLinks, DoLinksStand}
 use Rattle.node_table.specs.UnloadedLaws.{first_stands, others_stand}
+use Rattle.node_table.proofs.Changed.{reads_both, reads_failed, reads_wanting}
 use Rattle.node_table.proofs.Inserted.{all_standing, among_none, among_passed, among_leaf, among_made, among_node, behind_standing, below_made, below_grown, leaf_standing, passed_standing, rest_fits}
 use Rattle.node_table.proofs.Rows.{row_size, linked_size}
 use Rattle.node_table.proofs.Walked.{rest_small}
@@ -165,3 +166,46 @@ insert_below-returns-clause-there g t c =
     let own = standing_on second third mid now made two.reads.keeps two.reads.shape two.added (standing_on first second old mid made one.reads.keeps one.reads.shape one.added c.requires.there) in
     let S : List Link → Type 0 = λ v. AreStandingLinks third now v in
     c.in_ok-push_parted.ensures.stands own (subst S (sym c.as_slice-2.ensures.value) two.there)
+
+pub insert_below-returns-in_err-insert_among-clause-added : goal.insert_below-returns-in_err-insert_among-clause-added
+insert_below-returns-in_err-insert_among-clause-added g t c = added_both c.args.self.now.nodes.items c.opened_copy.new.self.nodes.items c.insert_among.new.self.nodes.items c.in_ok-node.ensures.added c.insert_among.ensures.added
+
+pub insert_below-returns-in_err-insert_among-clause-fanout : goal.insert_below-returns-in_err-insert_among-clause-fanout
+insert_below-returns-in_err-insert_among-clause-fanout g t c = c.insert_among.ensures.fanout ∙ c.in_ok-node.ensures.fanout
+
+pub insert_below-returns-in_err-insert_among-clause-reads : goal.insert_below-returns-in_err-insert_among-clause-reads
+insert_below-returns-in_err-insert_among-clause-reads g t c =
+    let a = g.V.Volume.state c.args.volume.now in
+    let b = g.V.Volume.state c.opened_copy.new.volume in
+    let d = g.V.Volume.state c.insert_among.new.volume in
+    reads_failed a b d c.in_ok-node.node c.in_err-insert_among.field-0.0 c.from_residual-in_err-insert_among.result c.from_residual-in_err-insert_among.ensures.1 c.in_ok-node.ensures.reads c.in_err-insert_among.ensures.reads
+
+pub insert_below-returns-in_err-push_parted-clause-added : goal.insert_below-returns-in_err-push_parted-clause-added
+insert_below-returns-in_err-push_parted-clause-added g t c =
+    added_both c.args.self.now.nodes.items c.insert_among.new.self.nodes.items c.push_parted.new.self.nodes.items
+    (added_both c.args.self.now.nodes.items c.opened_copy.new.self.nodes.items c.insert_among.new.self.nodes.items c.in_ok-node.ensures.added c.insert_among.ensures.added) c.push_parted.ensures.added
+
+pub insert_below-returns-in_err-push_parted-clause-fanout : goal.insert_below-returns-in_err-push_parted-clause-fanout
+insert_below-returns-in_err-push_parted-clause-fanout g t c = c.push_parted.ensures.fanout ∙ c.insert_among.ensures.fanout ∙ c.in_ok-node.ensures.fanout
+
+pub insert_below-returns-in_err-push_parted-clause-reads : goal.insert_below-returns-in_err-push_parted-clause-reads
+insert_below-returns-in_err-push_parted-clause-reads g t c =
+    let a = g.V.Volume.state c.args.volume.now in
+    let b = g.V.Volume.state c.opened_copy.new.volume in
+    let d = g.V.Volume.state c.insert_among.new.volume in
+    reads_wanting a d c.in_ok-node.node c.from_residual-in_err-push_parted.result c.from_residual-in_err-push_parted.ensures.1 (reads_both a b d c.in_ok-node.node _ c.in_ok-node.node c.in_ok-node.ensures.reads c.in_ok-insert_among.ensures.reads)
+
+pub insert_below-returns-clause-added : goal.insert_below-returns-clause-added
+insert_below-returns-clause-added g t c =
+    added_both c.args.self.now.nodes.items c.insert_among.new.self.nodes.items c.push_parted.new.self.nodes.items
+    (added_both c.args.self.now.nodes.items c.opened_copy.new.self.nodes.items c.insert_among.new.self.nodes.items c.in_ok-node.ensures.added c.insert_among.ensures.added) c.push_parted.ensures.added
+
+pub insert_below-returns-clause-fanout : goal.insert_below-returns-clause-fanout
+insert_below-returns-clause-fanout g t c = c.push_parted.ensures.fanout ∙ c.insert_among.ensures.fanout ∙ c.in_ok-node.ensures.fanout
+
+pub insert_below-returns-clause-reads : goal.insert_below-returns-clause-reads
+insert_below-returns-clause-reads g t c =
+    let a = g.V.Volume.state c.args.volume.now in
+    let b = g.V.Volume.state c.opened_copy.new.volume in
+    let d = g.V.Volume.state c.insert_among.new.volume in
+    reads_both a b d c.in_ok-node.node _ _ c.in_ok-node.ensures.reads c.in_ok-insert_among.ensures.reads

@@ -16,6 +16,7 @@ use Rattle.node_table.specs.StandingLinks.{standing_both, standing_none, standin
 use Rattle.node_table.specs.Unloaded.{AreStandingLinks}
 use Rattle.node_table.specs.UnloadedLaws.{first_stands, others_stand}
 use Rattle.node_table.specs.Walk.{inside}
+use Rattle.node_table.proofs.Changed.{reads_both, reads_failed, reads_wanting}
 use Rattle.node_table.proofs.Exchanged.{behind_bounded, rest_kept, left_sound}
 use Rattle.node_table.proofs.Inserted.{first_there, rest_there, rest_fits, row_kept, made_row}
 use Rattle.node_table.proofs.Pruned.{link_lower, links_higher, range_apart, range_behind, range_inside, both_gone, none_gone, some_gone, among_passed, among_last, among_more, leaf_stays, below_same, below_emptied, below_left}
@@ -365,3 +366,125 @@ prune_link-returns-in_ok-push-in-ToLeaf-clause-there g t c =
     let one : AreStandingLinks s old (c.args.link.now ∷ []) = record { there = (c.requires.link, tt); stand = c.requires.stands } in
     subst (λ (v : List Link). AreStandingLinks s old v) (sym c.in_ok-push-in-ToLeaf.ensures.items)
     (standing_both s old c.args.made.now.items (c.args.link.now ∷ []) c.requires.there one)
+
+pub prune_below-returns-in_err-gone-clause-added : goal.prune_below-returns-in_err-gone-clause-added
+prune_below-returns-in_err-gone-clause-added g t c = added_both c.args.self.now.nodes.items c.opened_copy.new.self.nodes.items c.prune_among.new.self.nodes.items c.in_ok-node.ensures.added c.prune_among.ensures.added
+
+pub prune_below-returns-in_err-gone-clause-fanout : goal.prune_below-returns-in_err-gone-clause-fanout
+prune_below-returns-in_err-gone-clause-fanout g t c = c.prune_among.ensures.fanout ∙ c.in_ok-node.ensures.fanout
+
+pub prune_below-returns-in_err-gone-clause-reads : goal.prune_below-returns-in_err-gone-clause-reads
+prune_below-returns-in_err-gone-clause-reads g t c =
+    let a = g.V.Volume.state c.args.volume.now in
+    let b = g.V.Volume.state c.opened_copy.new.volume in
+    let d = g.V.Volume.state c.prune_among.new.volume in
+    reads_failed a b d c.in_ok-node.node c.in_err-gone.field-0.0 c.from_residual-in_err-gone.result c.from_residual-in_err-gone.ensures.1 c.in_ok-node.ensures.reads c.in_err-gone.ensures.reads
+
+pub prune_below-returns-in_err-push-clause-fanout : goal.prune_below-returns-in_err-push-clause-fanout
+prune_below-returns-in_err-push-clause-fanout g t c = c.take_back.ensures.fanout ∙ c.prune_among.ensures.fanout ∙ c.in_ok-node.ensures.fanout
+
+pub prune_below-returns-then-gone-eq0-clause-gone : goal.prune_below-returns-then-gone-eq0-clause-gone
+prune_below-returns-then-gone-eq0-clause-gone g t c =
+    let from = c.args.from in
+    let to = c.args.to in
+    let children = c.in_ok-node.ensures.children ∙ ap (row_of (node_views c.opened_copy.new.self.nodes.items)) (sym c.as_slice.ensures.value) in
+    c.in_ok-gone.ensures.gone ∙ sym (ap (λ (r : KeyedRow). min (length (within_range from to (contents (bare r)))) (2 ^ 64 - 1)) children)
+
+pub prune_below-returns-then-gone-eq0-clause-fanout : goal.prune_below-returns-then-gone-eq0-clause-fanout
+prune_below-returns-then-gone-eq0-clause-fanout g t c = c.take_back.ensures.fanout ∙ c.prune_among.ensures.fanout ∙ c.in_ok-node.ensures.fanout
+
+pub prune_below-returns-then-gone-eq0-clause-reads : goal.prune_below-returns-then-gone-eq0-clause-reads
+prune_below-returns-then-gone-eq0-clause-reads g t c =
+    let a = g.V.Volume.state c.args.volume.now in
+    let b = g.V.Volume.state c.opened_copy.new.volume in
+    let d = g.V.Volume.state c.prune_among.new.volume in
+    reads_both a b d c.in_ok-node.node _ _ c.in_ok-node.ensures.reads c.in_ok-gone.ensures.reads
+
+pub prune_below-returns-then-is_empty-clause-gone : goal.prune_below-returns-then-is_empty-clause-gone
+prune_below-returns-then-is_empty-clause-gone g t c =
+    let from = c.args.from in
+    let to = c.args.to in
+    let children = c.in_ok-node.ensures.children ∙ ap (row_of (node_views c.opened_copy.new.self.nodes.items)) (sym c.as_slice.ensures.value) in
+    c.in_ok-gone.ensures.gone ∙ sym (ap (λ (r : KeyedRow). min (length (within_range from to (contents (bare r)))) (2 ^ 64 - 1)) children)
+
+pub prune_below-returns-then-is_empty-clause-fanout : goal.prune_below-returns-then-is_empty-clause-fanout
+prune_below-returns-then-is_empty-clause-fanout g t c = c.take_back-then-is_empty.ensures.fanout ∙ c.prune_among.ensures.fanout ∙ c.in_ok-node.ensures.fanout
+
+pub prune_below-returns-then-is_empty-clause-reads : goal.prune_below-returns-then-is_empty-clause-reads
+prune_below-returns-then-is_empty-clause-reads g t c =
+    let a = g.V.Volume.state c.args.volume.now in
+    let b = g.V.Volume.state c.opened_copy.new.volume in
+    let d = g.V.Volume.state c.prune_among.new.volume in
+    reads_both a b d c.in_ok-node.node _ _ c.in_ok-node.ensures.reads c.in_ok-gone.ensures.reads
+
+pub prune_below-returns-in_err-push_node-clause-added : goal.prune_below-returns-in_err-push_node-clause-added
+prune_below-returns-in_err-push_node-clause-added g t c =
+    added_both c.args.self.now.nodes.items c.prune_among.new.self.nodes.items c.push_node.new.self.nodes.items
+    (added_both c.args.self.now.nodes.items c.opened_copy.new.self.nodes.items c.prune_among.new.self.nodes.items c.in_ok-node.ensures.added c.prune_among.ensures.added) c.push_node.ensures.added
+
+pub prune_below-returns-in_err-push_node-clause-fanout : goal.prune_below-returns-in_err-push_node-clause-fanout
+prune_below-returns-in_err-push_node-clause-fanout g t c = c.push_node.ensures.fanout ∙ c.prune_among.ensures.fanout ∙ c.in_ok-node.ensures.fanout
+
+pub prune_below-returns-clause-gone : goal.prune_below-returns-clause-gone
+prune_below-returns-clause-gone g t c =
+    let from = c.args.from in
+    let to = c.args.to in
+    let children = c.in_ok-node.ensures.children ∙ ap (row_of (node_views c.opened_copy.new.self.nodes.items)) (sym c.as_slice.ensures.value) in
+    c.in_ok-gone.ensures.gone ∙ sym (ap (λ (r : KeyedRow). min (length (within_range from to (contents (bare r)))) (2 ^ 64 - 1)) children)
+
+pub prune_below-returns-clause-added : goal.prune_below-returns-clause-added
+prune_below-returns-clause-added g t c =
+    added_both c.args.self.now.nodes.items c.prune_among.new.self.nodes.items c.push_node.new.self.nodes.items
+    (added_both c.args.self.now.nodes.items c.opened_copy.new.self.nodes.items c.prune_among.new.self.nodes.items c.in_ok-node.ensures.added c.prune_among.ensures.added) c.push_node.ensures.added
+
+pub prune_below-returns-clause-fanout : goal.prune_below-returns-clause-fanout
+prune_below-returns-clause-fanout g t c = c.push_node.ensures.fanout ∙ c.prune_among.ensures.fanout ∙ c.in_ok-node.ensures.fanout
+
+pub prune_below-returns-clause-reads : goal.prune_below-returns-clause-reads
+prune_below-returns-clause-reads g t c =
+    let a = g.V.Volume.state c.args.volume.now in
+    let b = g.V.Volume.state c.opened_copy.new.volume in
+    let d = g.V.Volume.state c.prune_among.new.volume in
+    reads_both a b d c.in_ok-node.node _ _ c.in_ok-node.ensures.reads c.in_ok-gone.ensures.reads
+
+pub prune_among-returns-in_err-behind-in-Some-clause-added : goal.prune_among-returns-in_err-behind-in-Some-clause-added
+prune_among-returns-in_err-behind-in-Some-clause-added g t c = added_both c.args.self.now.nodes.items c.prune_link.new.self.nodes.items c.prune_among-in-Some.new.self.nodes.items c.in_ok-here-in-Some.ensures.added c.prune_among-in-Some.ensures.added
+
+pub prune_among-returns-in_err-behind-in-Some-clause-fanout : goal.prune_among-returns-in_err-behind-in-Some-clause-fanout
+prune_among-returns-in_err-behind-in-Some-clause-fanout g t c = c.prune_among-in-Some.ensures.fanout ∙ c.in_ok-here-in-Some.ensures.fanout
+
+pub prune_among-returns-in_ok-behind-in-Some-clause-added : goal.prune_among-returns-in_ok-behind-in-Some-clause-added
+prune_among-returns-in_ok-behind-in-Some-clause-added g t c = added_both c.args.self.now.nodes.items c.prune_link.new.self.nodes.items c.prune_among-in-Some.new.self.nodes.items c.in_ok-here-in-Some.ensures.added c.prune_among-in-Some.ensures.added
+
+pub prune_among-returns-in_ok-behind-in-Some-clause-fanout : goal.prune_among-returns-in_ok-behind-in-Some-clause-fanout
+prune_among-returns-in_ok-behind-in-Some-clause-fanout g t c = c.prune_among-in-Some.ensures.fanout ∙ c.in_ok-here-in-Some.ensures.fanout
+
+pub prune_among-returns-in_ok-behind-in-Some-clause-reads : goal.prune_among-returns-in_ok-behind-in-Some-clause-reads
+prune_among-returns-in_ok-behind-in-Some-clause-reads g t c =
+    let a = g.V.Volume.state c.args.volume.now in
+    let b = g.V.Volume.state c.prune_link.new.volume in
+    let d = g.V.Volume.state c.prune_among-in-Some.new.volume in
+    reads_both a b d c.in_ok-here-in-Some.here c.in_ok-behind-in-Some.behind _ c.in_ok-here-in-Some.ensures.reads c.in_ok-behind-in-Some.ensures.reads
+
+pub prune_below-returns-in_err-push-clause-reads : goal.prune_below-returns-in_err-push-clause-reads
+prune_below-returns-in_err-push-clause-reads g t c =
+    let a = g.V.Volume.state c.args.volume.now in
+    let b = g.V.Volume.state c.opened_copy.new.volume in
+    let d = g.V.Volume.state c.prune_among.new.volume in
+    let gone = c.in_ok-gone.gone in
+    reads_wanting a d gone c.from_residual-in_err-push.result c.from_residual-in_err-push.ensures.1 (reads_both a b d c.in_ok-node.node gone gone c.in_ok-node.ensures.reads c.in_ok-gone.ensures.reads)
+
+pub prune_below-returns-in_err-push_node-clause-reads : goal.prune_below-returns-in_err-push_node-clause-reads
+prune_below-returns-in_err-push_node-clause-reads g t c =
+    let a = g.V.Volume.state c.args.volume.now in
+    let b = g.V.Volume.state c.opened_copy.new.volume in
+    let d = g.V.Volume.state c.prune_among.new.volume in
+    let gone = c.in_ok-gone.gone in
+    reads_wanting a d gone c.from_residual-in_err-push_node.result c.from_residual-in_err-push_node.ensures.1 (reads_both a b d c.in_ok-node.node gone gone c.in_ok-node.ensures.reads c.in_ok-gone.ensures.reads)
+
+pub prune_among-returns-in_err-behind-in-Some-clause-reads : goal.prune_among-returns-in_err-behind-in-Some-clause-reads
+prune_among-returns-in_err-behind-in-Some-clause-reads g t c =
+    let a = g.V.Volume.state c.args.volume.now in
+    let b = g.V.Volume.state c.prune_link.new.volume in
+    let d = g.V.Volume.state c.prune_among-in-Some.new.volume in
+    reads_failed a b d c.in_ok-here-in-Some.here c.in_err-behind-in-Some.field-0.0 c.from_residual-in_err-behind-in-Some.result c.from_residual-in_err-behind-in-Some.ensures.1 c.in_ok-here-in-Some.ensures.reads c.in_err-behind-in-Some.ensures.reads

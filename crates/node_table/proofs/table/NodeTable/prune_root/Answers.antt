@@ -2,9 +2,11 @@ use Rattle.std.proofs.Common.{Option, Some, ◌≡◌, ap, sym, subst, ◌∙◌
 use Rattle.index_tree.specs.Order.{key_rank}
 use Rattle.index_media.specs.KeyedRange.{without_range_by_keys}
 use Rattle.index_media.specs.KeyedRow.{no_more}
+use Rattle.table_nodes.specs.LinkLaws.{added_both}
 use Rattle.table_nodes.specs.NodeView.{tree_at}
 use Rattle.node_table.specs.Staging.{only_root}
 use Rattle.table_nodes.specs.declared.node.Root.{Root}
+use Rattle.node_table.proofs.Changed.{reads_both, reads_failed}
 use Rattle.node_table.proofs.PrunedRoot.{left_of, all_pruned, some_pruned, none_pruned, by_ranks}
 use Rattle.node_table.proofs.Removed.{only_linked, sound_by}
 use Rattle.node_table.proofs.Rooted.{only_stands}
@@ -73,3 +75,29 @@ returns-clause-root g c =
     sound_by c.sink_root.new.self.nodes.items (Some sunk) (without_range_by_keys from to tree) c.in_ok-sunk-in-Some-only_node.ensures.there (returns-clause-made g c)
     (c.a_range_removal_leaves_the_keys_of_branches.ensures.keys from to tree c.requires.root.bounded)
     (c.a_range_removal_keeps_what_nodes_are.ensures.whole from to tree c.requires.root.keys)
+
+pub returns-in_err-sunk-in-Some-only_node-clause-added : goal.returns-in_err-sunk-in-Some-only_node-clause-added
+returns-in_err-sunk-in-Some-only_node-clause-added g c = added_both c.args.self.now.nodes.items c.prune_below.new.self.nodes.items c.sink_root.new.self.nodes.items c.in_ok-number-in-Some.ensures.added c.sink_root.ensures.added
+
+pub returns-in_err-sunk-in-Some-only_node-clause-fanout : goal.returns-in_err-sunk-in-Some-only_node-clause-fanout
+returns-in_err-sunk-in-Some-only_node-clause-fanout g c = c.sink_root.ensures.fanout ∙ c.in_ok-number-in-Some.ensures.fanout
+
+pub returns-in_err-sunk-in-Some-only_node-clause-reads : goal.returns-in_err-sunk-in-Some-only_node-clause-reads
+returns-in_err-sunk-in-Some-only_node-clause-reads g c =
+    let a = g.V.Volume.state c.args.volume.now in
+    let b = g.V.Volume.state c.prune_below.new.volume in
+    let d = g.V.Volume.state c.sink_root.new.volume in
+    reads_failed a b d c.in_ok-number-in-Some.number c.in_err-sunk-in-Some-only_node.field-0.0 c.from_residual-in_err-sunk-in-Some-only_node.result c.from_residual-in_err-sunk-in-Some-only_node.ensures.1 c.in_ok-number-in-Some.ensures.reads c.in_err-sunk-in-Some-only_node.ensures.reads
+
+pub returns-clause-added : goal.returns-clause-added
+returns-clause-added g c = added_both c.args.self.now.nodes.items c.prune_below.new.self.nodes.items c.sink_root.new.self.nodes.items c.in_ok-number-in-Some.ensures.added c.sink_root.ensures.added
+
+pub returns-clause-fanout : goal.returns-clause-fanout
+returns-clause-fanout g c = c.sink_root.ensures.fanout ∙ c.in_ok-number-in-Some.ensures.fanout
+
+pub returns-clause-reads : goal.returns-clause-reads
+returns-clause-reads g c =
+    let a = g.V.Volume.state c.args.volume.now in
+    let b = g.V.Volume.state c.prune_below.new.volume in
+    let d = g.V.Volume.state c.sink_root.new.volume in
+    reads_both a b d c.in_ok-number-in-Some.number c.in_ok-sunk-in-Some-only_node.sunk _ c.in_ok-number-in-Some.ensures.reads c.in_ok-sunk-in-Some-only_node.ensures.reads

@@ -1,10 +1,12 @@
 use Rattle.std.proofs.Common.{Option, None, Some, ◌≡◌, ap, refl, sym, subst, ◌∙◌, length}
 use Rattle.index_media.specs.KeyedRow.{no_more}
 use Rattle.node_table.specs.Exchange.{tree_without}
+use Rattle.table_nodes.specs.LinkLaws.{added_both}
 use Rattle.table_nodes.specs.NodeView.{tree_at, IsRootIn}
 use Rattle.node_table.specs.Staging.{only_root, IsSoundRoot}
 use Rattle.node_table.specs.Unloaded.{DoesRootStand}
 use Rattle.table_nodes.specs.declared.node.Root.{Root}
+use Rattle.node_table.proofs.Changed.{reads_both, reads_failed}
 use Rattle.node_table.proofs.Inserted.{tree_kept, sound_kept}
 use Rattle.node_table.proofs.Removed.{held_there, only_linked, option_stands, root_stands_on, without_none, left_row, none_left, one_left, sound_by, without_sound}
 use Rattle.node_table.proofs.table.NodeTable.remove.Goals as goal
@@ -105,3 +107,29 @@ returns-clause-root g c =
     let sound = without_sound leaf tree c.requires.root.bounded c.requires.root.keys
     (c.a_removal_leaves_the_keys_of_branches.ensures.keys leaf tree c.requires.root.bounded) (c.a_removal_keeps_what_nodes_are.ensures.whole leaf tree c.requires.root.keys) in
     sound_by last (Some c.in_ok-sunk-in-Some-only_node.sunk) (tree_without leaf tree) c.in_ok-sunk-in-Some-only_node.ensures.there is sound.0 sound.1
+
+pub returns-in_err-sunk-in-Some-only_node-clause-added : goal.returns-in_err-sunk-in-Some-only_node-clause-added
+returns-in_err-sunk-in-Some-only_node-clause-added g c = added_both c.args.self.now.nodes.items c.exchange_below.new.self.nodes.items c.sink_root.new.self.nodes.items c.in_ok-exchange_below-in-Some.ensures.added c.sink_root.ensures.added
+
+pub returns-in_err-sunk-in-Some-only_node-clause-fanout : goal.returns-in_err-sunk-in-Some-only_node-clause-fanout
+returns-in_err-sunk-in-Some-only_node-clause-fanout g c = c.sink_root.ensures.fanout ∙ c.in_ok-exchange_below-in-Some.ensures.fanout
+
+pub returns-in_err-sunk-in-Some-only_node-clause-reads : goal.returns-in_err-sunk-in-Some-only_node-clause-reads
+returns-in_err-sunk-in-Some-only_node-clause-reads g c =
+    let a = g.V.Volume.state c.args.volume.now in
+    let b = g.V.Volume.state c.exchange_below.new.volume in
+    let d = g.V.Volume.state c.sink_root.new.volume in
+    reads_failed a b d _ c.in_err-sunk-in-Some-only_node.field-0.0 c.from_residual-in_err-sunk-in-Some-only_node.result c.from_residual-in_err-sunk-in-Some-only_node.ensures.1 c.in_ok-exchange_below-in-Some.ensures.reads c.in_err-sunk-in-Some-only_node.ensures.reads
+
+pub returns-clause-added : goal.returns-clause-added
+returns-clause-added g c = added_both c.args.self.now.nodes.items c.exchange_below.new.self.nodes.items c.sink_root.new.self.nodes.items c.in_ok-exchange_below-in-Some.ensures.added c.sink_root.ensures.added
+
+pub returns-clause-fanout : goal.returns-clause-fanout
+returns-clause-fanout g c = c.sink_root.ensures.fanout ∙ c.in_ok-exchange_below-in-Some.ensures.fanout
+
+pub returns-clause-reads : goal.returns-clause-reads
+returns-clause-reads g c =
+    let a = g.V.Volume.state c.args.volume.now in
+    let b = g.V.Volume.state c.exchange_below.new.volume in
+    let d = g.V.Volume.state c.sink_root.new.volume in
+    reads_both a b d _ c.in_ok-sunk-in-Some-only_node.sunk _ c.in_ok-exchange_below-in-Some.ensures.reads c.in_ok-sunk-in-Some-only_node.ensures.reads
