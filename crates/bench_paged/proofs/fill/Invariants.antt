@@ -1,6 +1,0 @@
-use Rattle.node_cache.specs.Kept.{AreKept}
-use Rattle.bench_paged.specs.Dirty.{AreAllDirty}
-use Rattle.bench_paged.proofs.fill.Given as goal
-
-abbrev pub invariant-loop-i : goal.invariant-loop-i
-invariant-loop-i g l = AreAllDirty l.index × AreKept (g.V.Volume.state l.volume).holds l.cache
