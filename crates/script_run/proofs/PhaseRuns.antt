@@ -68,6 +68,11 @@ pub ok_both : {T E : Type 0} (r : Result T E) (P Q S : T → Type 0) → ((x : T
 ok_both (Ok x) P Q S both p q = both x p q
 ok_both (Err e) P Q S both p q = p
 
+-- what holds of the value, by one fact of it
+pub ok_then : {T E : Type 0} (r : Result T E) (P Q : T → Type 0) → ((x : T) → P x → Q x) → IfOk r P → IfOk r Q
+ok_then (Ok x) P Q then p = then x p
+ok_then (Err e) P Q then p = p
+
 -- a line of another kind ends the phase
 pub control_advances : (geo : RawGeometry) (old new : ScriptPlace) (part : Part) (text : List ℕ) → ((caller : ℕ) (op : Op) → part ≡ Line caller op → ⊥) → IsTurn geo old.here old.lines part text new.here → new.lines ≡ [] → HasAdvanced geo old part text new
 control_advances geo old new Mount text other turn none = (turn, none)

@@ -9,12 +9,14 @@ use crate::session::{Session, serve};
 use buffered_files::{clean_files_are_those_of_the_backing, present_files_are_sound};
 use fs_model::TraceLine;
 use live_fs::Closed;
+use plain_backing::PlainBacking;
 use script_phase::{CallerLine, serve_at_once};
 use script_text::write_reply;
 use std::alloc::Global;
 use std::sync::Wait;
 use std::thread::Threads;
 use ubifs_base::Memory;
+use vfs_ops::Fs;
 use writeback::Gate;
 
 /// Serves the lines of a phase, and appends what it prints: one after another, if they are of one caller beside no worker, and else all callers at
@@ -74,10 +76,28 @@ fn serve_in_turn(
     ensures few { IfOk result (λ new. new.number ≤ session.number + length lines.items) }
 {
     let mut session = session;
-    for line in lines {
-        serve(&mut session, line.caller, line.op, text)?;
-    }
+    serve_lines(&mut session, lines, text)?;
     Ok(session)
+}
+
+// One line after another, on the session where it stands.
+fn serve_lines(
+    session: &mut Session,
+    lines: Vec<CallerLine>,
+    text: &mut Vec<u8>,
+) -> Result<(), Memory>
+    requires session { IsSession (state_in session.old).geometry session.old }
+    requires lines { All (IsWaiting session.old.mounted) lines.items }
+    requires few { session.old.number + length lines.items ≤ 100000 }
+    ensures session { OnOk result (IsSession (state_in session.old).geometry session.new) }
+    ensures served { OnOk result ((more : List ℕ) × AreServed (state_in session.old).geometry (running_of session.old) lines.items more (running_of session.new) × (text.new.items ≡ text.old.items ++ more)) }
+    ensures mounted { OnOk result (session.new.mounted ≡ session.old.mounted) }
+    ensures few { OnOk result (session.new.number ≤ session.old.number + length lines.items) }
+{
+    for line in lines {
+        serve(session, line.caller, line.op, text)?;
+    }
+    Ok(())
 }
 
 // All callers at once.
@@ -107,8 +127,8 @@ fn serve_all<R: Threads + Wait + Sync, G: Gate + Sync>(
         number: _,
         workers,
     } = session;
-    let Closed { fs, trace } = serve_at_once(rt, alloc, fs, now, lines, workers, gate)?;
-    write_trace(trace.as_slice(), text)?;
+    let closed = serve_at_once(rt, alloc, fs, now, lines, workers, gate)?;
+    let fs = left_files(closed, text)?;
     Ok(Session {
         fs,
         geometry,
@@ -117,6 +137,16 @@ fn serve_all<R: Threads + Wait + Sync, G: Gate + Sync>(
         number: 0,
         workers,
     })
+}
+
+// The files that a phase left, behind what its trace prints.
+fn left_files(closed: Closed<PlainBacking>, text: &mut Vec<u8>) -> Result<Fs<PlainBacking>, Memory>
+    ensures files { IfOk result (λ fs. fs ≡ closed.fs) }
+    ensures printed { OnOk result (text.new.items ≡ text.old.items ++ trace_text closed.trace.items) }
+{
+    let Closed { fs, trace } = closed;
+    write_trace(trace.as_slice(), text)?;
+    Ok(fs)
 }
 
 // Appends what a trace prints: each of its lines, in its order.

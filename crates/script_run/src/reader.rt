@@ -7,17 +7,17 @@ ghost use Rattle.fs_model.specs.declared.backing_answers.Mode.TheVariants.{ReadO
 ghost use Rattle.script_text.specs.declared.part.Part.TheVariants.{Line, Mount, Unmount};
 ghost use Rattle.script_text.specs.Script.{IsInRange};
 ghost use Rattle.script_run.specs.Replies.{IsPartCalled, is_fault};
-ghost use Rattle.script_run.specs.Reading.{IsReadPart, IsReadReply, reading_on};
+ghost use Rattle.script_run.specs.Reading.{IsReadPart, IsReadReply, number_after, numbers_after, reading_on};
 ghost use Rattle.script_run.specs.Readers.{IsBackingClosed, reading_of, seen_over};
 
-use crate::session::{CLEAN, parts_of};
+use crate::session::{files_over, stepped};
 use buffered_files::clean_files_are_those_of_the_backing;
 use fs_model::{Cause, Mode, Op, Refusal, Reply, Space};
 use plain_backing::{PlainBacking, Tree};
 use script_text::{Part, write_mount_for_reading, write_reply};
 use std::alloc::Global;
 use ubifs_base::{Geometry, Memory};
-use vfs_ops::{Event, Fs};
+use vfs_ops::Fs;
 
 /// Files over such a volume, why it may only be read, whether it is mounted, and the time in seconds since 1970. At each caller's number stands how
 /// many lines of it are behind the last line of another kind.
@@ -53,16 +53,14 @@ pub(crate) fn first_reader(
         main: geometry.main_lebs(),
     };
     let backing = PlainBacking::new(alloc, geometry, tree, space, 0, Mode::ReadOnly { cause })?;
-    match Fs::new(alloc, backing, CLEAN) {
-        Ok(fs) => Ok(Reader {
-            fs,
-            cause,
-            mounted: false,
-            now: 0,
-            numbers: [0; 17],
-        }),
-        Err((fault, _)) => Err(fault),
-    }
+    let fs = files_over(alloc, backing)?;
+    Ok(Reader {
+        fs,
+        cause,
+        mounted: false,
+        now: 0,
+        numbers: [0; 17],
+    })
 }
 
 /// Does what a line of a script says, and appends what it prints. The error is want of memory.
@@ -79,41 +77,61 @@ pub(crate) fn read_next(
     ensures part { IfOk result (λ new. (line : List ℕ) × IsReadPart reader.cause (reading_of reader) part line (reading_of new) × (text.new.items ≡ text.old.items ++ line)) }
 {
     match part {
-        Part::Mount => read_mounted(reader, text),
         Part::Unmount => read_unmounted(alloc, reader, text),
-        Part::Now { now } => Ok(Reader {
-            fs: reader.fs,
-            cause: reader.cause,
-            mounted: reader.mounted,
-            now,
-            numbers: [0; 17],
-        }),
-        Part::Workers { .. } => Ok(Reader {
-            fs: reader.fs,
-            cause: reader.cause,
-            mounted: reader.mounted,
-            now: reader.now,
-            numbers: [0; 17],
-        }),
+        other => read_further(reader, other, text),
+    }
+}
+
+// Does what a line says that is no unmount.
+fn read_further(reader: Reader, part: Part, text: &mut Vec<u8>) -> Result<Reader, Memory>
+    requires closed { IsBackingClosed reader.cause reader.fs.backing reader.fs.kept }
+    requires range { IsInRange part }
+    requires other { part ≡ Unmount → ⊥ }
+    ensures closed { IfOk result (λ new. IsBackingClosed reader.cause new.fs.backing new.fs.kept) }
+    ensures cause { IfOk result (λ new. new.cause ≡ reader.cause) }
+    ensures part { IfOk result (λ new. (line : List ℕ) × IsReadPart reader.cause (reading_of reader) part line (reading_of new) × (text.new.items ≡ text.old.items ++ line)) }
+{
+    let mut reader = reader;
+    read_part(&mut reader, part, text)?;
+    Ok(reader)
+}
+
+// Does it where the session stands.
+fn read_part(reader: &mut Reader, part: Part, text: &mut Vec<u8>) -> Result<(), Memory>
+    requires closed { IsBackingClosed reader.old.cause reader.old.fs.backing reader.old.fs.kept }
+    requires range { IsInRange part }
+    requires other { part ≡ Unmount → ⊥ }
+    ensures closed { OnOk result (IsBackingClosed reader.old.cause reader.new.fs.backing reader.new.fs.kept) }
+    ensures cause { OnOk result (reader.new.cause ≡ reader.old.cause) }
+    ensures part { OnOk result ((line : List ℕ) × IsReadPart reader.old.cause (reading_of reader.old) part line (reading_of reader.new) × (text.new.items ≡ text.old.items ++ line)) }
+{
+    match part {
+        Part::Mount => read_mounted(reader, text),
+        Part::Now { now } => {
+            reader.now = now;
+            reader.numbers = [0; 17];
+            Ok(())
+        }
+        Part::Workers { .. } => {
+            reader.numbers = [0; 17];
+            Ok(())
+        }
         Part::Line { caller, op } => read_served(reader, caller, op, text),
+        Part::Unmount => unreachable!(),
     }
 }
 
 // Mounts the volume.
-fn read_mounted(reader: Reader, text: &mut Vec<u8>) -> Result<Reader, Memory>
-    requires closed { IsBackingClosed reader.cause reader.fs.backing reader.fs.kept }
-    ensures closed { IfOk result (λ new. IsBackingClosed reader.cause new.fs.backing new.fs.kept) }
-    ensures cause { IfOk result (λ new. new.cause ≡ reader.cause) }
-    ensures part { IfOk result (λ new. (line : List ℕ) × IsReadPart reader.cause (reading_of reader) Mount line (reading_of new) × (text.new.items ≡ text.old.items ++ line)) }
+fn read_mounted(reader: &mut Reader, text: &mut Vec<u8>) -> Result<(), Memory>
+    requires closed { IsBackingClosed reader.old.cause reader.old.fs.backing reader.old.fs.kept }
+    ensures closed { OnOk result (IsBackingClosed reader.old.cause reader.new.fs.backing reader.new.fs.kept) }
+    ensures cause { OnOk result (reader.new.cause ≡ reader.old.cause) }
+    ensures part { OnOk result ((line : List ℕ) × IsReadPart reader.old.cause (reading_of reader.old) Mount line (reading_of reader.new) × (text.new.items ≡ text.old.items ++ line)) }
 {
     write_mount_for_reading(reader.cause, text)?;
-    Ok(Reader {
-        fs: reader.fs,
-        cause: reader.cause,
-        mounted: true,
-        now: reader.now,
-        numbers: [0; 17],
-    })
+    reader.mounted = true;
+    reader.numbers = [0; 17];
+    Ok(())
 }
 
 // Unmounts it: nobody has a file open any more.
@@ -126,42 +144,42 @@ fn read_unmounted(alloc: Global, reader: Reader, text: &mut Vec<u8>) -> Result<R
     clean_files_are_those_of_the_backing();
     text.extend_from_slice(b"unmount unchanged\n".as_slice())?;
     let backing = reader.fs.into_parts();
-    match Fs::new(alloc, backing, CLEAN) {
-        Ok(fs) => Ok(Reader {
-            fs,
-            cause: reader.cause,
-            mounted: false,
-            now: reader.now,
-            numbers: [0; 17],
-        }),
-        Err((fault, _)) => Err(fault),
-    }
+    let fs = files_over(alloc, backing)?;
+    Ok(Reader {
+        fs,
+        cause: reader.cause,
+        mounted: false,
+        now: reader.now,
+        numbers: [0; 17],
+    })
 }
 
 // Does a caller's operation, and prints the reply.
-fn read_served(reader: Reader, caller: u16, op: Op, text: &mut Vec<u8>) -> Result<Reader, Memory>
-    requires closed { IsBackingClosed reader.cause reader.fs.backing reader.fs.kept }
+fn read_served(reader: &mut Reader, caller: u16, op: Op, text: &mut Vec<u8>) -> Result<(), Memory>
+    requires closed { IsBackingClosed reader.old.cause reader.old.fs.backing reader.old.fs.kept }
     requires call { IsPartCalled (Line caller op) }
     requires caller { caller ≤ 16 }
-    ensures closed { IfOk result (λ new. IsBackingClosed reader.cause new.fs.backing new.fs.kept) }
-    ensures cause { IfOk result (λ new. new.cause ≡ reader.cause) }
-    ensures part { IfOk result (λ new. (line : List ℕ) × IsReadPart reader.cause (reading_of reader) (Line caller op) line (reading_of new) × (text.new.items ≡ text.old.items ++ line)) }
+    ensures closed { OnOk result (IsBackingClosed reader.old.cause reader.new.fs.backing reader.new.fs.kept) }
+    ensures cause { OnOk result (reader.new.cause ≡ reader.old.cause) }
+    ensures part { OnOk result ((line : List ℕ) × IsReadPart reader.old.cause (reading_of reader.old) (Line caller op) line (reading_of reader.new) × (text.new.items ≡ text.old.items ++ line)) }
 {
-    let mut fs = reader.fs;
-    let reply = read_replied(&mut fs, reader.cause, caller, reader.now, op)?;
-    let mut numbers = reader.numbers;
+    let reply = read_replied(&mut reader.fs, reader.cause, caller, reader.now, op)?;
+    let number = next_number(&mut reader.numbers, caller)?;
+    write_reply(caller, number, &reply, text)?;
+    Ok(())
+}
+
+// The next number of a caller's lines.
+fn next_number(numbers: &mut [u64; 17], caller: u16) -> Result<u64, Memory>
+    requires caller { caller ≤ 16 }
+    ensures number { IfOk result (λ number. number ≡ number_after numbers.old caller) }
+    ensures numbers { OnOk result (numbers.new ≡ numbers_after numbers.old caller) }
+{
     let Some(number) = numbers[usize::from(caller)].checked_add(1) else {
         return Err(Memory);
     };
     numbers[usize::from(caller)] = number;
-    write_reply(caller, number, &reply, text)?;
-    Ok(Reader {
-        fs,
-        cause: reader.cause,
-        mounted: reader.mounted,
-        now: reader.now,
-        numbers,
-    })
+    Ok(number)
 }
 
 // The reply to a caller's operation. Want of memory ends the run. No call of a volume in memory fails; if one did, that would end it too.
@@ -177,18 +195,11 @@ fn read_replied(
     ensures closed { OnOk result (IsBackingClosed cause fs.new.backing fs.new.kept) }
     ensures replied { IfOk result (λ reply. (mounted : Bool) (numbers : List ℕ) → IsReadReply cause (record { files = seen_over fs.old.backing fs.old.kept; mounted = mounted; now = now; numbers = numbers }) caller op reply (seen_over fs.new.backing fs.new.kept)) }
 {
-    let event = Event::Call {
-        caller,
-        now,
-        grant: 0,
-        op,
-    };
-    let outcome = fs.step(&event);
-    let told = parts_of(outcome);
-    if is_fault(&told.0) {
+    let reply = stepped(fs, caller, now, op);
+    if is_fault(&reply) {
         return Err(Memory);
     }
-    Ok(told.0)
+    Ok(reply)
 }
 
 // Whether an operation was refused for want of memory, or because the volume failed.

@@ -1,6 +1,6 @@
 // The lines of a script on a volume that may only be read.
 
-ghost use Rattle.std.specs.Prelude.{◌≡◌, IfOk, false};
+ghost use Rattle.std.specs.Prelude.{◌≡◌, IfOk, [], false};
 ghost use Rattle.std.specs.List.{AllByRecursion};
 ghost use Rattle.fs_model.specs.Proper.{IsProper};
 ghost use Rattle.fs_model.specs.declared.backing_answers.Mode.TheVariants.{ReadOnly};
@@ -17,13 +17,6 @@ use script_text::Part;
 use std::alloc::Global;
 use ubifs_base::{Geometry, Memory};
 
-/// What the lines printed, and the session that they left.
-#[derive(Drop)]
-pub(crate) struct LinesRead {
-    pub(crate) text: Vec<u8>,
-    pub(crate) reader: Reader,
-}
-
 /// What the lines print on a volume with this tree that may only be read, for this cause. Want of memory is the only fault.
 pub(crate) fn read_text(
     alloc: Global,
@@ -37,27 +30,29 @@ pub(crate) fn read_text(
     requires range { AllByRecursion IsInRange parts.items }
     ensures { IfOk result (λ text. IsReadText cause tree parts.items text.items) }
 {
-    let read = read_lines(alloc, geometry, tree, cause, parts)?;
-    Ok(read.text)
+    let mut text = Vec::new(alloc);
+    let _reader = read_lines(alloc, geometry, tree, cause, parts, &mut text)?;
+    Ok(text)
 }
 
-// Does what the lines say.
+// Does what the lines say, and prints it behind no other text.
 fn read_lines(
     alloc: Global,
     geometry: Geometry,
     tree: Tree,
     cause: Cause,
     parts: Vec<Part>,
-) -> Result<LinesRead, Memory>
+    text: &mut Vec<u8>,
+) -> Result<Reader, Memory>
     requires proper { IsProper tree }
     requires unspent { is_spent (ReadOnly cause) ≡ false }
     requires range { AllByRecursion IsInRange parts.items }
-    ensures { IfOk result (λ read. IsReadRun cause (reading_on tree) parts.items read.text.items (reading_of read.reader)) }
+    requires empty { text.old.items ≡ [] }
+    ensures { IfOk result (λ reader. IsReadRun cause (reading_on tree) parts.items text.new.items (reading_of reader)) }
 {
     let mut reader = first_reader(alloc, geometry, tree, cause)?;
-    let mut text = Vec::new(alloc);
     for part in parts {
-        reader = read_next(alloc, reader, part, &mut text)?;
+        reader = read_next(alloc, reader, part, text)?;
     }
-    Ok(LinesRead { text, reader })
+    Ok(reader)
 }

@@ -1,46 +1,15 @@
-use Rattle.std.proofs.Common.{◌≡◌, ◌++◌, ℕ, List, [], refl, sym, subst}
+use Rattle.std.proofs.Common.{◌≡◌, ◌++◌, ℕ, List, sym, subst}
 use Rattle.std.specs.Prelude.{IfOk}
-use Rattle.std.proofs.lemmas.List.{append-nil}
 use Rattle.script_text.specs.declared.part.Part.{Part}
-use Rattle.script_text.specs.Script.{IsInRange}
 use Rattle.script_run.specs.Readers.{reading_of}
-use Rattle.script_run.specs.Reading.{IsReadPart, no_numbers}
+use Rattle.script_run.specs.Reading.{IsReadPart}
 use Rattle.script_run.proofs.reader.read_next.Goals as goal
 
-pub returns-in-Now-clause-part : goal.returns-in-Now-clause-part
-returns-in-Now-clause-part c = (
-  [],
-  subst (λ part. IsReadPart c.args.reader.cause (reading_of c.args.reader) part [] (record (reading_of c.args.reader) { now = c.in-Now.now; numbers = no_numbers })) (sym c.in-Now.is) (refl, refl),
-  sym (append-nil c.args.text.now.items),
-)
-
-pub returns-in-Workers-clause-part : goal.returns-in-Workers-clause-part
-returns-in-Workers-clause-part c = (
-  [],
-  subst (λ part. IsReadPart c.args.reader.cause (reading_of c.args.reader) part [] (record (reading_of c.args.reader) { numbers = no_numbers })) (sym c.in-Workers.is) (refl, refl),
-  sym (append-nil c.args.text.now.items),
-)
-
-pub returns-in-Mount-clause-part : goal.returns-in-Mount-clause-part
-returns-in-Mount-clause-part c =
-    let reader = c.args.reader in
-    let P : Part → Type 0 = λ part. IfOk c.read_mounted.result (λ new. (x : List ℕ) × IsReadPart reader.cause (reading_of reader) part x (reading_of new) × (c.read_mounted.new.text.items ≡ c.args.text.now.items ++ x)) in
-    subst P (sym c.in-Mount.is) c.read_mounted.ensures.part
+pub read_further-requires-clause-other : goal.read_further-requires-clause-other
+read_further-requires-clause-other c = c.in_default.not-Unmount
 
 pub returns-in-Unmount-clause-part : goal.returns-in-Unmount-clause-part
 returns-in-Unmount-clause-part c =
     let reader = c.args.reader in
     let P : Part → Type 0 = λ part. IfOk c.read_unmounted.result (λ new. (x : List ℕ) × IsReadPart reader.cause (reading_of reader) part x (reading_of new) × (c.read_unmounted.new.text.items ≡ c.args.text.now.items ++ x)) in
     subst P (sym c.in-Unmount.is) c.read_unmounted.ensures.part
-
-pub read_served-requires-clause-call : goal.read_served-requires-clause-call
-read_served-requires-clause-call c = (subst IsInRange c.in-Line.is c.requires.range).1
-
-pub read_served-requires-clause-caller : goal.read_served-requires-clause-caller
-read_served-requires-clause-caller c = (subst IsInRange c.in-Line.is c.requires.range).0.1
-
-pub returns-in-Line-clause-part : goal.returns-in-Line-clause-part
-returns-in-Line-clause-part c =
-    let reader = c.args.reader in
-    let P : Part → Type 0 = λ part. IfOk c.read_served.result (λ new. (x : List ℕ) × IsReadPart reader.cause (reading_of reader) part x (reading_of new) × (c.read_served.new.text.items ≡ c.args.text.now.items ++ x)) in
-    subst P (sym c.in-Line.is) c.read_served.ensures.part

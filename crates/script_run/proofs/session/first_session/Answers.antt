@@ -6,24 +6,24 @@ use Rattle.script_run.specs.Run.{LeavesOnly}
 use Rattle.script_run.specs.Sessions.{IsSteady}
 use Rattle.script_run.proofs.session.first_session.Goals as goal
 
-pub returns-in-Ok-clause-session : goal.returns-in-Ok-clause-session
-returns-in-Ok-clause-session c =
+pub returns-clause-session : goal.returns-clause-session
+returns-clause-session c =
     let made = c.in_ok-backing.ensures in
-    let opened = c.in-Ok.ensures.opened in
-    let P : PlainBacking → Type 0 = λ backing. IsSteady (raw_of c.args.opening.geometry) backing c.in-Ok.fs.kept in
+    let bare = c.in_ok-fs.ensures.bare in
+    let P : PlainBacking → Type 0 = λ backing. IsSteady (raw_of c.args.opening.geometry) backing c.in_ok-fs.fs.kept in
     record {
       geometry = refl;
-      steady = subst P (sym c.in-Ok.ensures.backing) (record {
+      steady = subst P (sym c.in_ok-fs.ensures.backing) (record {
         geometry = made.geometry;
         mode = made.mode;
         faults = made.faults;
         strike = made.strike;
         covers = made.covers;
         orphans = made.orphans;
-        credits = made.credits ∙ sym (ap (λ dirty. length dirty) opened.dirty);
+        credits = made.credits ∙ sym (ap (λ dirty. length dirty) bare.pages);
       });
-      bare = λ none. record { pages = opened.dirty; inodes = opened.inodes; handles = opened.handles };
+      bare = λ none. bare;
     }
 
-pub returns-in-Ok-clause-left : goal.returns-in-Ok-clause-left
-returns-in-Ok-clause-left c = subst (λ (b : PlainBacking). LeavesOnly (backing_state_of b).journal c.args.opening.tree) (sym c.in-Ok.ensures.backing) c.in_ok-backing.ensures.left
+pub returns-clause-left : goal.returns-clause-left
+returns-clause-left c = subst (λ (b : PlainBacking). LeavesOnly (backing_state_of b).journal c.args.opening.tree) (sym c.in_ok-fs.ensures.backing) c.in_ok-backing.ensures.left

@@ -1,42 +1,25 @@
-use Rattle.std.proofs.Common.{rules, refl, subst}
+use Rattle.std.proofs.Common.{◌≡◌, ◌++◌, ℕ, List, refl, rules}
 use Rattle.std.specs.Prelude.{codes}
 use Rattle.text_lines.specs.Lines.{ended}
-use Rattle.ubifs_base.specs.declared.raw_geometry.RawGeometry.{RawGeometry}
-use Rattle.ubifs_base.specs.RawOf.{raw_of}
-use Rattle.script_run.specs.Run.{HasGrown}
-use Rattle.script_run.specs.Sessions.{IsSteady, mounted_over}
+use Rattle.script_text.specs.declared.part.Part.TheVariants.{Unmount}
+use Rattle.script_run.specs.declared.session.Session.{Session}
+use Rattle.script_run.specs.Run.{IsScriptPart, IsUnmounted}
+use Rattle.script_run.specs.Sessions.{running_of, state_in}
+use Rattle.script_run.proofs.PhaseRuns.{ok_then}
 use Rattle.script_run.proofs.session.unmounted.Goals as goal
 
 pub returns-clause-session : goal.returns-clause-session
-returns-clause-session c =
-    let was = c.requires.session in
-    let fs = c.in_ok-fs.fs in
-    let P : RawGeometry → Type 0 = λ geo. IsSteady geo fs.backing fs.kept in
-    record { geometry = was.geometry; steady = subst P was.geometry c.in_ok-fs.ensures.steady; bare = λ none. c.in_ok-fs.ensures.bare }
+returns-clause-session c = c.away.ensures.session
 
 pub returns-clause-part : goal.returns-clause-part
 returns-clause-part c =
-    let geo = raw_of c.args.session.fs.backing.geo in
-    let was = c.requires.session in
-    let away = c.in_ok-fs.ensures in
-    let P : RawGeometry → Type 0 = λ g. HasGrown g 0 0 (mounted_over c.args.session.fs.backing c.args.session.fs.kept 0) (mounted_over c.in_ok-fs.fs.backing c.in_ok-fs.fs.kept 0) in
-    let grown = subst P was.geometry away.grown in (
-      ended (codes "unmount clean"),
-      (
-        refl,
-        record {
-          put = away.files.0;
-          same = away.files.1;
-          stored = away.files.2;
-          files = away.files.3;
-          left = away.left;
-          grown = record { weight = grown.weight; index = grown.index };
-          closed = away.closed;
-          mounted = refl;
-          now = refl;
-          number = refl;
-          workers = refl;
-        },
-      ),
-      search (rules, c.as_slice.ensures, c.in_ok-extend_from_slice.ensures.items),
-    )
+    let session = c.args.session in
+    let geo = (state_in session).geometry in
+    let line = ended (codes "unmount clean") in
+    let after = c.extend_from_slice.new.self.items in
+    let printed : after ≡ c.args.text.now.items ++ line = search (rules, c.as_slice.ensures, c.in_ok-extend_from_slice.ensures.items) in
+    ok_then c.away.result (λ (new : Session). IsUnmounted geo (running_of session) (running_of new)) (λ (new : Session). (x : List ℕ) × IsScriptPart geo (running_of session) Unmount x (running_of new) × (after ≡ c.args.text.now.items ++ x))
+    (λ new done. (line, (refl, done), printed)) c.away.ensures.unmounted
+
+pub returns-clause-few : goal.returns-clause-few
+returns-clause-few c = c.away.ensures.few

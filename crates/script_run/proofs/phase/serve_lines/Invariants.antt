@@ -2,7 +2,7 @@ use Rattle.std.proofs.Common.{◌≡◌, ℕ, ◌+◌, ◌≤◌, ◌++◌, List
 use Rattle.script_run.specs.Phases.{AreServed}
 use Rattle.script_run.specs.Run.{ScriptRunning}
 use Rattle.script_run.specs.Sessions.{IsSession, IsWaiting, running_of, state_in}
-use Rattle.script_run.proofs.phase.serve_in_turn.Given as goal
+use Rattle.script_run.proofs.phase.serve_lines.Given as goal
 
 abbrev pub invariant-loop-line : goal.invariant-loop-line
 invariant-loop-line l = record {
