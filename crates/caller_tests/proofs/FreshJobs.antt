@@ -26,11 +26,6 @@ pub all_came : {A : Type 0} (came left whole : List A) → came ++ left ≡ whol
 all_came came [] whole is none = sym (append-nil came) ∙ is
 all_came came (x ∷ xs) whole is none = absurd (omega arith)
 
--- what holds of all holds of the last
-pub holds_last : {A : Type 0} (P : A → Type 0) (xs : List A) (x : A) → All P (xs ++ x ∷ []) → P x
-holds_last P [] x all = All-head P x [] all
-holds_last P (y ∷ ys) x all = holds_last P ys x (All-tail P y (ys ++ x ∷ []) all)
-
 pub all_fresh : (word pool : TableId) (n : ℕ) → All (IsOf word pool) (fresh_passes word pool n)
 all_fresh word pool zero = All-nil (IsOf word pool)
 all_fresh word pool (suc n) = All-push (IsOf word pool) (fresh_passes word pool n) (fresh_pass word pool (suc n)) (all_fresh word pool n) (refl, refl)

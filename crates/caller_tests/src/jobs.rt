@@ -1,12 +1,17 @@
 // The jobs of callers, and what is told of them.
 
 ghost use Rattle.std.specs.Prelude.{◌≡◌, All, IfOk, IsTrue, map};
+ghost use Rattle.atomic_table.specs.Seated.{TableId};
 ghost use Rattle.fs_model.specs.Proper.{are_bytes};
 ghost use Rattle.fs_laws.specs.Sound.{IsCall};
+ghost use Rattle.traced_files.specs.Start.{IsNewLedger};
+ghost use Rattle.writeback.specs.Runs.{MayRun};
 
+use credit_pool::Pool;
 use fs_model::{Op, Reply, TraceLine};
 use std::alloc::Global;
-use traced_files::Pass;
+use trace_word::TraceWord;
+use traced_files::{Ledger, NewTrace, Pass, open};
 use ubifs_base::{Memory, Name};
 use writeback::Job;
 
@@ -19,7 +24,7 @@ fn path(alloc: Global, bytes: &[u8]) -> Result<Name, Memory>
 
 // The operation of a letter on the file `/F`, where F is the byte `file`: it is created, and opened in the slot 0; there 4,100 bytes
 // of F are written, or one page, and 9 bytes read from 4,095 on; all is written back; any other letter closes the slot.
-pub(crate) fn op_of(alloc: Global, file: u8, letter: u8) -> Result<Op, Memory>
+fn op_of(alloc: Global, file: u8, letter: u8) -> Result<Op, Memory>
     ensures { IfOk result (λ op. IsCall op) }
 {
     let path = path(alloc, &[b'/', file])?;
@@ -59,13 +64,17 @@ fn ops_of(alloc: Global, file: u8, letters: &[u8]) -> Result<Vec<Op>, Memory>
     Ok(ops)
 }
 
-// The job of a caller, at the moment 7: the first caller's file is `/a`, and so on.
-pub(crate) fn job_of(alloc: Global, pass: Pass, letters: &[u8]) -> Result<Job, Memory>
+// The name of a caller's file: the first caller's is `a`, and so on.
+fn file_of(caller: u16) -> u8 {
+    b'`'.wrapping_add((caller % 64) as u8)
+}
+
+// The job of a caller, at the moment 7.
+fn job_of(alloc: Global, pass: Pass, letters: &[u8]) -> Result<Job, Memory>
     ensures pass { IfOk result (λ job. job.pass ≡ pass) }
     ensures ops { IfOk result (λ job. All IsCall job.ops.items) }
 {
-    let file = b'`'.wrapping_add((pass.caller % 64) as u8);
-    let ops = ops_of(alloc, file, letters)?;
+    let ops = ops_of(alloc, file_of(pass.caller), letters)?;
     Ok(Job { pass, now: 7, ops })
 }
 
@@ -79,6 +88,54 @@ pub(crate) fn jobs_of(alloc: Global, passes: Vec<Pass>, letters: &[u8]) -> Resul
         jobs.push(job_of(alloc, pass, letters)?)?;
     }
     Ok(jobs)
+}
+
+// The job of the last caller.
+fn last_job(alloc: Global, passes: Vec<Pass>, letters: &[u8]) -> Result<Job, Memory>
+    ensures { (word pool : TableId) → All (λ p. (p.word ≡ word) × (p.pool ≡ pool)) passes.items → IfOk result (λ job. MayRun word pool job) }
+{
+    let mut passes = passes;
+    let Some(pass) = passes.pop() else {
+        return Err(Memory);
+    };
+    job_of(alloc, pass, letters)
+}
+
+// A new trace, the job of the last of its callers, and a call that this one makes behind it.
+pub(crate) struct LastCaller {
+    pub(crate) word: TraceWord,
+    pub(crate) pool: Pool,
+    pub(crate) ledger: Ledger,
+    pub(crate) job: Job,
+    pub(crate) later: Op,
+}
+
+// Those of a trace of so many callers.
+pub(crate) fn last_of(
+    alloc: Global,
+    callers: u16,
+    first: &[u8],
+    later: u8,
+) -> Result<LastCaller, Memory>
+    ensures ledger { IfOk result (λ last. IsNewLedger last.word last.pool callers last.ledger) }
+    ensures job { IfOk result (λ last. MayRun last.word last.pool last.job) }
+    ensures later { IfOk result (λ last. IsCall last.later) }
+{
+    let later = op_of(alloc, file_of(callers), later)?;
+    let NewTrace {
+        word,
+        pool,
+        ledger,
+        passes,
+    } = open(alloc, callers, callers)?;
+    let job = last_job(alloc, passes, first)?;
+    Ok(LastCaller {
+        word,
+        pool,
+        ledger,
+        job,
+        later,
+    })
 }
 
 // What a reply tells as a number: 1 for an inode's, how many bytes were written, or a byte that was read, with 1,000 for each;
