@@ -1,13 +1,7 @@
-//! Tests of texts, images, and the command over files in memory.
+//! Tests of the command over files in memory.
 //!
 //! They stand above the crates whose public calls they make, since a crate that has tests is proved twice: by itself, and with its tests.
 #![tactic(auto)]
 
 #[cfg(test)]
-mod io_edges_tests;
-#[cfg(test)]
-mod script_text_tests;
-#[cfg(test)]
 mod ubifs_tools_tests;
-#[cfg(test)]
-mod volume_format_tests;

@@ -23,15 +23,6 @@ const MAGIC: &[u8] = b"\x31\x18\x10\x06";
 // What a check tells of the image of the run: two inodes, a name and a page, in one LEB, and an index of one node.
 const SOUND: &[u8] = b"sound clean used 4528 empty 62 index 1 weight 1\n";
 
-// The words of a run, a name by itself.
-fn words(alloc: Global, names: &[&str]) -> Result<Vec<String>, Memory> {
-    let mut words = Vec::new(alloc);
-    for name in names {
-        words.push(String::from_str(alloc, name)?)?;
-    }
-    Ok(words)
-}
-
 // What goes on where that run ended.
 const MORE: &[u8] = b"mount\n1 stat /f\n1 open /f 0\n1 read 0 4095 9\nunmount\nend\n";
 
@@ -50,119 +41,108 @@ const LINES_AT_ONCE: &[&str] = &[
     "2 3 ok",
 ];
 
-// A keeper that has the texts of a run as `a` and `b`, and two more scripts as `m` and `t`, and fails at one call.
-fn keeper(alloc: Global, fails_at: u64) -> Result<MemKeeper, Memory> {
-    let mut files = BTreeMap::new(alloc);
-    files.insert(
-        String::from_str(alloc, "a")?,
-        Bytes::from_slice(alloc, MANIFEST)?,
-    )?;
-    files.insert(
-        String::from_str(alloc, "b")?,
-        Bytes::from_slice(alloc, SCRIPT)?,
-    )?;
-    files.insert(
-        String::from_str(alloc, "m")?,
-        Bytes::from_slice(alloc, MORE)?,
-    )?;
-    files.insert(
-        String::from_str(alloc, "t")?,
-        Bytes::from_slice(alloc, AT_ONCE)?,
-    )?;
-    Ok(MemKeeper::new(alloc, files, vec![in alloc; fails_at]?))
+// The texts of a run, and two more scripts.
+const FILES: &[(&str, &[u8])] = &[("a", MANIFEST), ("b", SCRIPT), ("m", MORE), ("t", AT_ONCE)];
+
+fn add_file(
+    alloc: Global,
+    files: &mut BTreeMap<String, Bytes>,
+    name: &str,
+    bytes: &[u8],
+) -> Result<(), Memory> {
+    let name = String::from_str(alloc, name)?;
+    let bytes = Bytes::from_slice(alloc, bytes)?;
+    files.insert(name, bytes)?;
+    Ok(())
 }
 
-// Words, the calls of keeper and sink that fail, the status, and what is printed. An image is left where the run was whole, or its text alone
-// wasn't printed.
-type Row = (&'static [&'static str], u64, u64, u8, &'static [u8]);
+fn all_files(alloc: Global) -> Result<BTreeMap<String, Bytes>, Memory> {
+    let mut files = BTreeMap::new(alloc);
+    for (name, bytes) in FILES {
+        add_file(alloc, &mut files, name, bytes)?;
+    }
+    Ok(files)
+}
+
+// A keeper that has these files, and fails at one call.
+fn keeper(alloc: Global, fails_at: u64) -> Result<MemKeeper, Memory> {
+    let fails = vec![in alloc; fails_at]?;
+    Ok(MemKeeper::new(alloc, all_files(alloc)?, fails))
+}
+
+// A sink that fails at one call.
+fn sink(alloc: Global, fails_at: u64) -> Result<MemSink, Memory> {
+    Ok(MemSink::new(alloc, vec![in alloc; fails_at]?))
+}
+
+// The words of a run, a name by itself.
+fn words(alloc: Global, names: &[&str]) -> Result<Vec<String>, Memory> {
+    let mut words = Vec::new(alloc);
+    for name in names {
+        words.push(String::from_str(alloc, name)?)?;
+    }
+    Ok(words)
+}
+
+// The run whose image others begin on.
+const RUN: &[&str] = &["run", "a", "b", "c"];
+
+// Whether that run goes before, words, the calls of keeper and sink that fail, the status, and what is printed, which is None for callers at once. An image
+// is left where the run was whole, or its text alone wasn't printed.
+type Row = (
+    bool,
+    &'static [&'static str],
+    u64,
+    u64,
+    u8,
+    Option<&'static [u8]>,
+);
 
 const ROWS: &[Row] = &[
-    (&["run", "a", "b", "c"], 0, 0, 0, TRACE),
-    (&["run", "a", "b", "c"], 1, 0, 4, b"file a\n"),
-    (&["run", "a", "b", "c"], 2, 0, 4, b"file b\n"),
-    (&["run", "a", "b", "c"], 3, 0, 4, b"file c\n"),
-    (&["run", "d", "b", "c"], 0, 0, 4, b"file d\n"),
-    (&["run", "a", "d", "c"], 0, 0, 4, b"file d\n"),
-    (&["run", "d", "e", "c"], 0, 0, 4, b"file d\n"),
-    (&["run", "b", "b", "c"], 0, 0, 3, b"image short 100\n"),
-    (&["run", "a", "a", "c"], 0, 0, 2, b"script line 1\n"),
-    (&["run", "b", "d", "c"], 0, 0, 4, b"file d\n"),
-    (&["run", "a", "b", "c"], 0, 1, 5, b""),
-    (&["run", "d", "b", "c"], 0, 1, 4, b""),
-    (&["run", "a", "b", "-c"], 0, 0, 1, b"usage\n"),
-    (&["run", "a", "b", ""], 0, 0, 1, b"usage\n"),
-    (&["dump", "a", "b", "c"], 0, 0, 1, b"usage\n"),
-    (&["run", "a", "b", "-c"], 0, 1, 1, b""),
-    (&["dump", "-a"], 0, 0, 1, b"usage\n"),
-    (&["dump", "d"], 0, 0, 4, b"file d\n"),
-    (&["dump", "a"], 1, 0, 4, b"file a\n"),
-    (&["dump", "a"], 0, 0, 3, b"image short 26\n"),
-    (&["dump", "a"], 0, 1, 3, b""),
-    (&["check", "a", "b"], 0, 0, 1, b"usage\n"),
-    (&["check", "-a"], 0, 0, 1, b"usage\n"),
-    (&["check", "d"], 0, 0, 4, b"file d\n"),
-    (&["check", "a"], 0, 0, 3, b"image short 26\n"),
+    (false, RUN, 0, 0, 0, Some(TRACE)),
+    (false, RUN, 1, 0, 4, Some(b"file a\n")),
+    (false, RUN, 2, 0, 4, Some(b"file b\n")),
+    (false, RUN, 3, 0, 4, Some(b"file c\n")),
+    (false, &["run", "d", "b", "c"], 0, 0, 4, Some(b"file d\n")),
+    (false, &["run", "a", "d", "c"], 0, 0, 4, Some(b"file d\n")),
+    (false, &["run", "d", "e", "c"], 0, 0, 4, Some(b"file d\n")),
+    (
+        false,
+        &["run", "b", "b", "c"],
+        0,
+        0,
+        3,
+        Some(b"image short 100\n"),
+    ),
+    (
+        false,
+        &["run", "a", "a", "c"],
+        0,
+        0,
+        2,
+        Some(b"script line 1\n"),
+    ),
+    (false, &["run", "b", "d", "c"], 0, 0, 4, Some(b"file d\n")),
+    (false, RUN, 0, 1, 5, Some(b"")),
+    (false, &["run", "d", "b", "c"], 0, 1, 4, Some(b"")),
+    (false, &["run", "a", "b", "-c"], 0, 0, 1, Some(b"usage\n")),
+    (false, &["run", "a", "b", ""], 0, 0, 1, Some(b"usage\n")),
+    (false, &["dump", "a", "b", "c"], 0, 0, 1, Some(b"usage\n")),
+    (false, &["run", "a", "b", "-c"], 0, 1, 1, Some(b"")),
+    (false, &["dump", "-a"], 0, 0, 1, Some(b"usage\n")),
+    (false, &["dump", "d"], 0, 0, 4, Some(b"file d\n")),
+    (false, &["dump", "a"], 1, 0, 4, Some(b"file a\n")),
+    (false, &["dump", "a"], 0, 0, 3, Some(b"image short 26\n")),
+    (false, &["dump", "a"], 0, 1, 3, Some(b"")),
+    (false, &["check", "a", "b"], 0, 0, 1, Some(b"usage\n")),
+    (false, &["check", "-a"], 0, 0, 1, Some(b"usage\n")),
+    (false, &["check", "d"], 0, 0, 4, Some(b"file d\n")),
+    (false, &["check", "a"], 0, 0, 3, Some(b"image short 26\n")),
+    (false, &["run", "a", "t", "c"], 0, 0, 0, None),
+    // An image of a run is told as sound, and a run begins where another ended.
+    (true, &["check", "c"], 0, 0, 0, Some(SOUND)),
+    (true, &["run", "c", "m", "d"], 0, 0, 0, Some(MORE_TRACE)),
 ];
-
-// Whether an image is left where the status says so: 74 LEBs, of which the first begins with a node.
-fn is_left(image: Result<Vec<u8>, KeepFault>, status: u8) -> bool {
-    match image {
-        Ok(image) => (status == 0 || status == 5)
-            && image.len() == 74 * 16384
-            && image.starts_with(MAGIC),
-        Err(_) => status != 0 && status != 5,
-    }
-}
-
-fn is_answered<R: Threads + Wait + Sync>(rt: &R, alloc: Global, row: &Row) -> Result<bool, Memory> {
-    let (names, keeper_fails, sink_fails, status, text) = *row;
-    let mut keeper = keeper(alloc, keeper_fails)?;
-    let mut out = MemSink::new(alloc, vec![in alloc; sink_fails]?);
-    let words = words(alloc, names)?;
-    let answer = ubifs(rt, alloc, &words, &mut keeper, &mut out, &OpenGate {});
-    Ok(answer == status && out.text() == text && is_left(keeper.read("c"), status))
-}
-
-#[test]
-fn each_status_has_its_line(rt: HostRuntime) {
-    for (number, row) in ROWS.iter().enumerate() {
-        assert_eq!(rt; is_answered(&rt, rt.alloc(), row), Ok(true), "row {number}");
-    }
-}
-
-// Whether the image that a run leaves is told as sound by a check.
-fn is_told_as_sound<R: Threads + Wait + Sync>(rt: &R, alloc: Global) -> Result<bool, Memory> {
-    let mut keeper = keeper(alloc, 0)?;
-    let mut trace = MemSink::new(alloc, vec![in alloc; 0]?);
-    let run = words(alloc, &["run", "a", "b", "c"])?;
-    let ran = ubifs(rt, alloc, &run, &mut keeper, &mut trace, &OpenGate {});
-    let mut told = MemSink::new(alloc, vec![in alloc; 0]?);
-    let check = words(alloc, &["check", "c"])?;
-    let answer = ubifs(rt, alloc, &check, &mut keeper, &mut told, &OpenGate {});
-    Ok(ran == 0 && answer == 0 && told.text() == SOUND)
-}
-
-#[test]
-fn an_image_of_a_run_is_told_as_sound(rt: HostRuntime) {
-    assert_eq!(rt; is_told_as_sound(&rt, rt.alloc()), Ok(true));
-}
-
-// Whether a run on the image that another left begins on the files of that one.
-fn goes_on<R: Threads + Wait + Sync>(rt: &R, alloc: Global) -> Result<bool, Memory> {
-    let mut keeper = keeper(alloc, 0)?;
-    let mut trace = MemSink::new(alloc, vec![in alloc; 0]?);
-    let run = words(alloc, &["run", "a", "b", "c"])?;
-    let ran = ubifs(rt, alloc, &run, &mut keeper, &mut trace, &OpenGate {});
-    let mut told = MemSink::new(alloc, vec![in alloc; 0]?);
-    let more = words(alloc, &["run", "c", "m", "d"])?;
-    let answer = ubifs(rt, alloc, &more, &mut keeper, &mut told, &OpenGate {});
-    Ok(ran == 0 && answer == 0 && told.text() == MORE_TRACE)
-}
-
-#[test]
-fn a_run_begins_where_another_ended(rt: HostRuntime) {
-    assert_eq!(rt; goes_on(&rt, rt.alloc()), Ok(true));
-}
 
 // How often a line stands in a text.
 fn times(text: &str, line: &str) -> u64 {
@@ -176,28 +156,87 @@ fn times(text: &str, line: &str) -> u64 {
 }
 
 // Whether callers at once are answered, each line once.
-fn are_answered_at_once<R: Threads + Wait + Sync>(rt: &R, alloc: Global) -> Result<bool, Memory> {
-    let mut keeper = keeper(alloc, 0)?;
-    let mut out = MemSink::new(alloc, vec![in alloc; 0]?);
-    let words = words(alloc, &["run", "a", "t", "c"])?;
-    let answer = ubifs(rt, alloc, &words, &mut keeper, &mut out, &OpenGate {});
-    let Ok(text) = str::from_utf8(out.text()) else {
-        return Ok(false);
+fn are_lines_at_once(text: &[u8]) -> bool {
+    let Ok(text) = str::from_utf8(text) else {
+        return false;
     };
     for line in LINES_AT_ONCE {
         if times(text, line) != 1 {
-            return Ok(false);
+            return false;
         }
     }
-    Ok(
-        answer == 0
-            && text.starts_with("mount rw\n1 1 ok 65\n")
-            && text.ends_with("\nunmount clean\n")
-            && is_left(keeper.read("c"), 0),
-    )
+    text.starts_with("mount rw\n1 1 ok 65\n") && text.ends_with("\nunmount clean\n")
+}
+
+fn is_printed(text: &[u8], wanted: Option<&[u8]>) -> bool {
+    match wanted {
+        Some(wanted) => text == wanted,
+        None => are_lines_at_once(text),
+    }
+}
+
+// Whether an image is left where the status says so: 74 LEBs, of which the first begins with a node.
+fn is_left(image: Result<Vec<u8>, KeepFault>, status: u8) -> bool {
+    match image {
+        Ok(image) => (status == 0 || status == 5)
+            && image.len() == 74 * 16384
+            && image.starts_with(MAGIC),
+        Err(_) => status != 0 && status != 5,
+    }
+}
+
+// The status of a command. No other function makes words, or calls the command.
+fn status_of<R: Threads + Wait + Sync>(
+    rt: &R,
+    alloc: Global,
+    names: &[&str],
+    keeper: &mut MemKeeper,
+    out: &mut MemSink,
+) -> Result<u8, Memory> {
+    let words = words(alloc, names)?;
+    Ok(ubifs(rt, alloc, &words, keeper, out, &OpenGate {}))
+}
+
+// Whether what goes before, if anything, ends well.
+fn is_begun<R: Threads + Wait + Sync>(
+    rt: &R,
+    alloc: Global,
+    before: bool,
+    keeper: &mut MemKeeper,
+) -> Result<bool, Memory> {
+    if !before {
+        return Ok(true);
+    }
+    let mut trace = sink(alloc, 0)?;
+    Ok(status_of(rt, alloc, RUN, keeper, &mut trace)? == 0)
+}
+
+fn is_as_told<R: Threads + Wait + Sync>(
+    rt: &R,
+    alloc: Global,
+    row: &Row,
+    keeper: &mut MemKeeper,
+    out: &mut MemSink,
+) -> Result<bool, Memory> {
+    let (before, names, _, _, wanted, text) = *row;
+    if !is_begun(rt, alloc, before, keeper)? {
+        return Ok(false);
+    }
+    let status = status_of(rt, alloc, names, keeper, out)?;
+    Ok(status == wanted && is_printed(out.text(), text) && is_left(keeper.read("c"), wanted))
+}
+
+// What owns the files and the text hands them on, so that no fault drops them in the midst of a call.
+fn is_answered<R: Threads + Wait + Sync>(rt: &R, alloc: Global, row: &Row) -> Result<bool, Memory> {
+    let (_, _, keeper_fails, sink_fails, _, _) = *row;
+    let mut out = sink(alloc, sink_fails)?;
+    let mut keeper = keeper(alloc, keeper_fails)?;
+    is_as_told(rt, alloc, row, &mut keeper, &mut out)
 }
 
 #[test]
-fn callers_at_once_are_answered(rt: HostRuntime) {
-    assert_eq!(rt; are_answered_at_once(&rt, rt.alloc()), Ok(true));
+fn each_command_is_answered(rt: HostRuntime) {
+    for (number, row) in ROWS.iter().enumerate() {
+        assert_eq!(rt; is_answered(&rt, rt.alloc(), row), Ok(true), "row {number}");
+    }
 }

@@ -98,10 +98,9 @@ fn host_file_is_written_and_read_back(rt: HostRuntime) -> Result<(), Fail> {
     let pieces = is_written_in_pieces(&mut keeper, &name);
     fs::remove_file(&rt, &name)?;
     let missing = keeper.read(&name).err();
-    assert_eq!(rt; (written, pieces), (Ok(true), Ok(true)));
     assert_eq!(rt;
-        (missing, keeper.faults()),
-        (Some(KeepFault::Failed { count: 1 }), 1)
+        (written, pieces, missing, keeper.faults()),
+        (Ok(true), Ok(true), Some(KeepFault::Failed { count: 1 }), 1,)
     );
     Ok(())
 }
@@ -148,11 +147,6 @@ fn is_published(alloc: Global) -> Result<bool, Memory> {
     )
 }
 
-#[test]
-fn memory_is_published(rt: HostRuntime) {
-    assert_eq!(rt; is_published(rt.alloc()), Ok(true));
-}
-
 // The same of a keeper in memory, whose fourth call fails.
 fn takes_pieces(alloc: Global) -> Result<bool, Memory> {
     let mut keeper = one_file(alloc)?;
@@ -162,6 +156,9 @@ fn takes_pieces(alloc: Global) -> Result<bool, Memory> {
 }
 
 #[test]
-fn memory_takes_pieces(rt: HostRuntime) {
-    assert_eq!(rt; takes_pieces(rt.alloc()), Ok(true));
+fn memory_is_published_and_takes_pieces(rt: HostRuntime) {
+    assert_eq!(rt;
+        (is_published(rt.alloc()), takes_pieces(rt.alloc())),
+        (Ok(true), Ok(true))
+    );
 }

@@ -85,6 +85,32 @@ const TEXTS: &[(&str, u64)] = &[
     ("workers 8\nmount\n16 flush\n17 flush\n", 4),
     ("end\nend\n", 2),
     ("mount\nend\nunmount\nend\n", 3),
+    // Each second line is a bad operation.
+    ("mount\n1 \nunmount\nend\n", 2),
+    ("mount\n1 create\nunmount\nend\n", 2),
+    ("mount\n1 create /f\nunmount\nend\n", 2),
+    ("mount\n1 create  /f 644\nunmount\nend\n", 2),
+    ("mount\n1 create  644\nunmount\nend\n", 2),
+    ("mount\n1 create //f 644\nunmount\nend\n", 2),
+    ("mount\n1 create /f%2f 644\nunmount\nend\n", 2),
+    ("mount\n1 create /%2g 644\nunmount\nend\n", 2),
+    ("mount\n1 create /\u{7f} 644\nunmount\nend\n", 2),
+    ("mount\n1 create /\t 644\nunmount\nend\n", 2),
+    ("mount\n1 create /f 8\nunmount\nend\n", 2),
+    ("mount\n1 create /f 07777\nunmount\nend\n", 2),
+    ("mount\n1 create /f \nunmount\nend\n", 2),
+    ("mount\n1 stat //\nunmount\nend\n", 2),
+    ("mount\n1 list \nunmount\nend\n", 2),
+    ("mount\n1 symlink /s\nunmount\nend\n", 2),
+    ("mount\n1 symlink /s a b\nunmount\nend\n", 2),
+    ("mount\n1 symlink /s a%\nunmount\nend\n", 2),
+    ("mount\n1 close 01\nunmount\nend\n", 2),
+    ("mount\n1 close -1\nunmount\nend\n", 2),
+    ("mount\n1 read 0 0 1 \nunmount\nend\n", 2),
+    ("mount\n1 write 0 0 1\nunmount\nend\n", 2),
+    ("mount\n1 write 0 01 1 97\nunmount\nend\n", 2),
+    ("mount\n1 write 0 0 1 97 0\nunmount\nend\n", 2),
+    ("mount\n1 write 0  0 1 97\nunmount\nend\n", 2),
 ];
 
 // The first bad line of a text, or 0.
@@ -104,50 +130,6 @@ fn the_first_bad_line_is_told(rt: HostRuntime) {
             Ok(*number),
             "at {text}"
         );
-    }
-}
-
-// Lines of operations, each of which is bad.
-const BAD_OPERATIONS: &[&str] = &[
-    "1 ",
-    "1 create",
-    "1 create /f",
-    "1 create  /f 644",
-    "1 create  644",
-    "1 create //f 644",
-    "1 create /f%2f 644",
-    "1 create /%2g 644",
-    "1 create /\u{7f} 644",
-    "1 create /\t 644",
-    "1 create /f 8",
-    "1 create /f 07777",
-    "1 create /f ",
-    "1 stat //",
-    "1 list ",
-    "1 symlink /s",
-    "1 symlink /s a b",
-    "1 symlink /s a%",
-    "1 close 01",
-    "1 close -1",
-    "1 read 0 0 1 ",
-    "1 write 0 0 1",
-    "1 write 0 01 1 97",
-    "1 write 0 0 1 97 0",
-    "1 write 0  0 1 97",
-];
-
-// The first bad line of a script in which this is the second line, or 0.
-fn bad_line_with(alloc: Global, line: &str) -> Result<u64, Memory> {
-    let mut text = Vec::from_slice(alloc, b"mount\n")?;
-    text.extend_from_slice(line.as_bytes())?;
-    text.extend_from_slice(b"\nunmount\nend\n")?;
-    bad_line(alloc, &text)
-}
-
-#[test]
-fn a_bad_operation_is_told(rt: HostRuntime) {
-    for line in BAD_OPERATIONS {
-        assert_eq!(rt; bad_line_with(rt.alloc(), line), Ok(2), "at {line}");
     }
 }
 
@@ -192,126 +174,130 @@ fn manifests_are_read(rt: HostRuntime) {
     }
 }
 
-// Whether a reply to the tenth operation of caller 16 is this text, behind what was written before.
-fn is_written(alloc: Global, reply: &Reply, text: &str) -> Result<bool, Memory> {
-    let mut out = Vec::from_slice(alloc, b"before\n")?;
-    write_reply(16, 10, reply, &mut out)?;
-    let mut wanted = Vec::from_slice(alloc, b"before\n16 10 ")?;
-    wanted.extend_from_slice(text.as_bytes())?;
-    wanted.push(b'\n')?;
-    Ok(out.as_slice() == wanted.as_slice())
+// What a reply says.
+enum Said {
+    Done,
+    Ino,
+    Count,
+    Stat,
+    Off,
+    // A byte, how often it is read, and what is read behind it.
+    Read(usize, u8, &'static str),
+    Refused(Refusal),
 }
 
-// A byte, how often it is read, what is read behind it, and the text.
-const READS: &[(usize, u8, &str, &str)] = &[
-    (0, 0, "", "ok 0"),
-    (4096, 0x61, "", "ok 4096 4096x61"),
-    (4095, 0, "bb", "ok 4097 4095x00,2x62"),
-    (8192, 0, "a", "ok 8193 8192x00,1x61"),
-    (0, 0, "a", "ok 1 1x61"),
-    (1, 0xfe, "aab", "ok 4 1xfe,2x61,1x62"),
-];
-
-fn is_read_written(
-    alloc: Global,
-    n: usize,
-    byte: u8,
-    tail: &str,
-    text: &str,
-) -> Result<bool, Memory> {
-    let mut bytes = vec![in alloc; byte; n]?;
-    bytes.extend_from_slice(tail.as_bytes())?;
-    let bytes = Bytes::from_slice(alloc, &bytes)?;
-    is_written(alloc, &Reply::Bytes { bytes }, text)
-}
-
-#[test]
-fn reads_are_written(rt: HostRuntime) {
-    for (n, byte, tail, text) in READS {
-        assert_eq!(rt;
-            is_read_written(rt.alloc(), *n, *byte, tail, text),
-            Ok(true),
-            "{text}"
-        );
-    }
-}
-
-fn are_replies_written(alloc: Global) -> Result<bool, Memory> {
-    let stat = Reply::Stat {
-        kind: Kind::Dir,
-        ino: 1,
-        mode: 0o755,
-        nlink: 2,
-        size: 288,
-        mtime: 0,
-    };
-    Ok(
-        is_written(alloc, &Reply::Done, "ok")?
-            && is_written(alloc, &Reply::Ino { ino: 65 }, "ok 65")?
-            && is_written(alloc, &Reply::Count { n: 0 }, "ok 0")?
-            && is_written(alloc, &stat, "ok d 1 755 2 288 0")?
-            && is_written(alloc, &Reply::Off, "off")?,
-    )
-}
-
-#[test]
-fn replies_are_written(rt: HostRuntime) {
-    assert_eq!(rt; are_replies_written(rt.alloc()), Ok(true));
-}
-
-const REFUSALS: &[(Refusal, &str)] = &[
-    (Refusal::Enoent, "E1"),
+// Replies, and their texts.
+const REPLIES: &[(Said, &str)] = &[
+    (Said::Done, "ok"),
+    (Said::Ino, "ok 65"),
+    (Said::Count, "ok 0"),
+    (Said::Stat, "ok d 1 755 2 288 0"),
+    (Said::Off, "off"),
+    (Said::Read(0, 0, ""), "ok 0"),
+    (Said::Read(4096, 0x61, ""), "ok 4096 4096x61"),
+    (Said::Read(4095, 0, "bb"), "ok 4097 4095x00,2x62"),
+    (Said::Read(8192, 0, "a"), "ok 8193 8192x00,1x61"),
+    (Said::Read(0, 0, "a"), "ok 1 1x61"),
+    (Said::Read(1, 0xfe, "aab"), "ok 4 1xfe,2x61,1x62"),
+    (Said::Refused(Refusal::Enoent), "E1"),
     (
-        Refusal::Enospc {
+        Said::Refused(Refusal::Enospc {
             space: NoSpace {
                 need: 456608,
                 room: 453600,
             },
-        },
+        }),
         "E6 456608 453600",
     ),
     (
-        Refusal::Erofs {
+        Said::Refused(Refusal::Erofs {
             cause: Cause::Tight {
                 what: Scarce::Space,
                 need: 160,
                 room: 0,
             },
-        },
+        }),
         "E7 tight space 160 0",
     ),
     (
-        Refusal::Erofs {
+        Said::Refused(Refusal::Erofs {
             cause: Cause::Faulted { count: 1 },
-        },
+        }),
         "E7 faulted 1",
     ),
     (
-        Refusal::Erofs {
+        Said::Refused(Refusal::Erofs {
             cause: Cause::Spent {
                 sqnum: 3,
                 cmt_no: 2,
             },
-        },
+        }),
         "E7 spent 3 2",
     ),
-    (Refusal::Eio { count: 1 }, "E8 1"),
-    (Refusal::Efbig, "E10"),
-    (Refusal::Einval, "E12"),
+    (Said::Refused(Refusal::Eio { count: 1 }), "E8 1"),
+    (Said::Refused(Refusal::Efbig), "E10"),
+    (Said::Refused(Refusal::Einval), "E12"),
     (
-        Refusal::Enfile {
+        Said::Refused(Refusal::Enfile {
             what: Table::Inodes,
             limit: 4294967040,
-        },
+        }),
         "E14 inodes 4294967040",
     ),
-    (Refusal::Ebadf, "E15"),
+    (Said::Refused(Refusal::Ebadf), "E15"),
 ];
 
+fn read_bytes(alloc: Global, n: usize, byte: u8, tail: &str) -> Result<Reply, Memory> {
+    let mut bytes = vec![in alloc; byte; n]?;
+    bytes.extend_from_slice(tail.as_bytes())?;
+    Ok(Reply::Bytes {
+        bytes: Bytes::from_vec(bytes),
+    })
+}
+
+fn reply_of(alloc: Global, said: &Said) -> Result<Reply, Memory> {
+    match said {
+        Said::Done => Ok(Reply::Done),
+        Said::Ino => Ok(Reply::Ino { ino: 65 }),
+        Said::Count => Ok(Reply::Count { n: 0 }),
+        Said::Stat => Ok(Reply::Stat {
+            kind: Kind::Dir,
+            ino: 1,
+            mode: 0o755,
+            nlink: 2,
+            size: 288,
+            mtime: 0,
+        }),
+        Said::Off => Ok(Reply::Off),
+        Said::Read(n, byte, tail) => read_bytes(alloc, *n, *byte, tail),
+        Said::Refused(refusal) => Ok(Reply::Refused { refusal: *refusal }),
+    }
+}
+
+// The line of a reply to the tenth operation of caller 16, behind what was written before.
+fn line_of(alloc: Global, said: &Said) -> Result<Vec<u8>, Memory> {
+    let reply = reply_of(alloc, said)?;
+    let mut out = Vec::from_slice(alloc, b"before\n")?;
+    write_reply(16, 10, &reply, &mut out)?;
+    Ok(out)
+}
+
+fn wanted_line(alloc: Global, text: &str) -> Result<Vec<u8>, Memory> {
+    let mut wanted = Vec::from_slice(alloc, b"before\n16 10 ")?;
+    wanted.extend_from_slice(text.as_bytes())?;
+    wanted.push(b'\n')?;
+    Ok(wanted)
+}
+
+fn is_written(alloc: Global, said: &Said, text: &str) -> Result<bool, Memory> {
+    let line = line_of(alloc, said)?;
+    let wanted = wanted_line(alloc, text)?;
+    Ok(line.as_slice() == wanted.as_slice())
+}
+
 #[test]
-fn refusals_are_written(rt: HostRuntime) {
-    for (refusal, text) in REFUSALS {
-        let reply = Reply::Refused { refusal: *refusal };
-        assert_eq!(rt; is_written(rt.alloc(), &reply, text), Ok(true), "{text}");
+fn replies_are_written(rt: HostRuntime) {
+    for (said, text) in REPLIES {
+        assert_eq!(rt; is_written(rt.alloc(), said, text), Ok(true), "{text}");
     }
 }
