@@ -8,14 +8,8 @@ mod op_groups_tests;
 #[cfg(test)]
 mod plain_backing_cut_tests;
 #[cfg(test)]
-mod vfs_ops_event_tests;
-#[cfg(test)]
 mod vfs_ops_fs_tests;
 #[cfg(test)]
-mod vfs_ops_orphan_tests;
-#[cfg(test)]
 mod vfs_ops_page_tests;
-#[cfg(test)]
-mod vfs_ops_size_tests;
 #[cfg(test)]
 mod vfs_ops_tests;

@@ -67,27 +67,38 @@ fn show_cut<B: Backing>(backing: &B)
     let _ = backing.faults();
 }
 
-// A fresh volume on which a file was made, and all is synced. A cut leaves the file, and may leave it.
-fn file_synced(alloc: Global) -> Result<PlainBacking, Memory>
-    ensures left { IfOk result (λ backing. (tree : Tree) → MayLeave (backing_state_of backing).journal tree → tree ≡ without_nameless (apply fresh.tree sample_group)) }
-    ensures may { IfOk result (λ backing. MayLeave (backing_state_of backing).journal (without_nameless (backing_state_of backing).tree)) }
+// Makes a file on a fresh volume and syncs all, and answers whether there was room. A cut then leaves the file, and may leave it.
+fn file_synced(alloc: Global, backing: &mut PlainBacking) -> Result<bool, Memory>
+    requires fresh { (backing_state_of backing.old).tree ≡ fresh.tree }
+    ensures left { IfOk result (λ put. put ≡ true → (tree : Tree) → MayLeave (backing_state_of backing.new).journal tree → tree ≡ without_nameless (apply fresh.tree sample_group)) }
+    ensures may { IfOk result (λ put. put ≡ true → MayLeave (backing_state_of backing.new).journal (without_nameless (backing_state_of backing.new).tree)) }
 {
-    let mut backing = fresh_backing(alloc)?;
     let group = file_group(alloc)?;
-    match put_and_sync(&mut backing, &file_need(), &group) {
+    match put_and_sync(backing, &file_need(), &group) {
         Ok(true) => {
-            show_cut(&backing);
-            Ok(backing)
+            show_cut(backing);
+            Ok(true)
         }
-        _ => return Err(Memory),
+        _ => return Ok(false),
     }
 }
 
-// A fresh volume on which a file was made while a commit ran.
-fn file_in_a_commit(alloc: Global) -> Result<Result<bool, StoreFault>, Memory> {
-    let mut backing = fresh_backing(alloc)?;
+pub(crate) fn is_synced(alloc: Global) -> Result<bool, Memory> {
+    let mut backing = fresh_backing(alloc, 1)?;
+    file_synced(alloc, &mut backing)
+}
+
+// Makes a file on a fresh volume while a commit runs.
+fn file_in_a_commit(alloc: Global, backing: &mut PlainBacking) -> Result<bool, Memory>
+    requires fresh { (backing_state_of backing.old).tree ≡ fresh.tree }
+{
     let group = file_group(alloc)?;
-    Ok(put_in_a_commit(&mut backing, &file_need(), &group))
+    Ok(put_in_a_commit(backing, &file_need(), &group) == Ok(true))
+}
+
+pub(crate) fn is_made_in_a_commit(alloc: Global) -> Result<bool, Memory> {
+    let mut backing = fresh_backing(alloc, 1)?;
+    file_in_a_commit(alloc, &mut backing)
 }
 
 // What the file's group asks for.
@@ -100,11 +111,4 @@ fn file_need() -> Need
         nodes: 3,
         class: Class::Ordinary,
     }
-}
-
-// A file is made and synced, and made while a commit runs.
-#[test]
-fn cuts_leave_what_was_put(rt: HostRuntime) {
-    assert!(rt; file_synced(rt.alloc()).is_ok());
-    assert_eq!(rt; file_in_a_commit(rt.alloc()), Ok(Ok(true)));
 }

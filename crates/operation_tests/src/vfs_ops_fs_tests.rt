@@ -1,14 +1,17 @@
-// The looks of a file system, and a caller of the backing's own.
+// The looks of a file system, a caller of the backing's own, and the table of all cases that are no run.
 
-ghost use Rattle.std.specs.Prelude.{◌≡◌, ◌≤◌, ◌+◌, length, IfOk};
+ghost use Rattle.std.specs.Prelude.{◌≡◌, ◌≤◌, ◌+◌, [], length, IfOk, OnOk};
 ghost use Rattle.fs_model.specs.Backing.{FitsGroup, FitsOrphans, FitsPage, IsModest};
 ghost use Rattle.fs_model.specs.Change.{apply};
 ghost use Rattle.fs_model.specs.Making.{new_file};
 ghost use Rattle.fs_model.specs.Proper.{IsProper};
+ghost use Rattle.fs_model.specs.Worked.{fresh};
 ghost use Rattle.plain_backing.specs.PlainBacking.{backing_state_of};
 ghost use Rattle.operation_tests.specs.Sample.{sample_group, sample_page};
 
-use crate::vfs_ops_tests::{answered, fresh_backing, fresh_files, path, root};
+use crate::plain_backing_cut_tests::{is_made_in_a_commit, is_synced};
+use crate::vfs_ops_page_tests::is_read_once;
+use crate::vfs_ops_tests::{Step, add_root, done, fresh_backing, fresh_files, path};
 use fs_model::{
     Backing, Change, Class, Entry, Group, Inode, Kind, Mode, Need, NoSpace, PageNode, Refusal,
     StoreFault,
@@ -36,14 +39,20 @@ fn nothing_put(alloc: Global, fs: &mut Fs<PlainBacking>) -> Result<(), Refusal> 
     fs.apply_group(&Group::new(alloc), &need)
 }
 
-// How many entries the root has, and the number behind the name `f`, 0 where there is none.
-fn looked_up(alloc: Global, fs: &mut Fs<PlainBacking>) -> Result<(usize, u32), StoreFault> {
-    let entries = fs.entries(1)?;
+// The number behind the name `f`, 0 where there is none.
+fn number_of_f(alloc: Global, fs: &mut Fs<PlainBacking>) -> Result<u32, StoreFault> {
     let name = Name::from_slice(alloc, b"f")?;
     match fs.lookup(1, &name)? {
-        Some(entry) => Ok((entries.len(), entry.ino)),
-        None => Ok((entries.len(), 0)),
+        Some(entry) => Ok(entry.ino),
+        None => Ok(0),
     }
+}
+
+// How many entries the root has, and the number behind the name `f`.
+fn looked_up(alloc: Global, fs: &mut Fs<PlainBacking>) -> Result<(usize, u32), StoreFault> {
+    let ino = number_of_f(alloc, fs)?;
+    let entries = fs.entries(1)?;
+    Ok((entries.len(), ino))
 }
 
 // The time of an inode's last change, 0 where there is none.
@@ -54,34 +63,44 @@ fn changed_at(fs: &mut Fs<PlainBacking>, ino: u32) -> Result<u64, StoreFault> {
     }
 }
 
-// A file that is made is found by its path, by its name and by its number; and a group of no change is put.
-fn what_is_made_is_looked_up(alloc: Global) -> Result<bool, Memory> {
-    let mut fs = fresh_files(alloc)?;
-    let before = looked_up(alloc, &mut fs);
-    let made = answered(alloc, &mut fs, b'c')?;
-    let walked = walked_to(alloc, &mut fs, b"/f");
-    let missed = walked_to(alloc, &mut fs, b"/g");
-    Ok(
-        before == Ok((0, 0))
-            && made == 65
-            && walked == Ok(65)
-            && missed == Err(Refusal::Enoent)
-            && looked_up(alloc, &mut fs) == Ok((1, 65))
-            && changed_at(&mut fs, 65) == Ok(7)
-            && nothing_put(alloc, &mut fs) == Ok(())
-            && (fs.highest(), fs.mode(), fs.refused().len()) == (65, Mode::ReadWrite, 0),
-    )
+// On a fresh volume nothing is found.
+fn is_nothing_found(alloc: Global, fs: &mut Fs<PlainBacking>) -> bool {
+    looked_up(alloc, fs) == Ok((0, 0))
 }
 
-// The group that makes the file `f` on a fresh volume.
-pub(crate) fn file_group(alloc: Global) -> Result<Group, Memory>
-    ensures { IfOk result (λ group. group ≡ sample_group) }
+// A file that was made is found by its path, by its name and by its number, and no other; and a group of no change is put.
+fn is_found(alloc: Global, fs: &mut Fs<PlainBacking>) -> bool {
+    walked_to(alloc, fs, b"/f") == Ok(65)
+        && walked_to(alloc, fs, b"/g") == Err(Refusal::Enoent)
+        && looked_up(alloc, fs) == Ok((1, 65))
+        && changed_at(fs, 65) == Ok(7)
+        && nothing_put(alloc, fs) == Ok(())
+        && fs.highest() == 65
+        && fs.mode() == Mode::ReadWrite
+        && fs.refused().is_empty()
+}
+
+fn is_found_once_made(alloc: Global, fs: &mut Fs<PlainBacking>) -> Result<bool, Memory> {
+    let before = is_nothing_found(alloc, fs);
+    let made = done(alloc, fs, &Step::Create(b'f'))?;
+    Ok(before && made == 65 && is_found(alloc, fs))
+}
+
+fn what_is_made_is_looked_up(alloc: Global) -> Result<bool, Memory> {
+    let mut fs = fresh_files(alloc, 1)?;
+    is_found_once_made(alloc, &mut fs)
+}
+
+// Appends what makes the file `f` to a group without a change.
+fn add_file(alloc: Global, group: &mut Group) -> Result<(), Memory>
+    requires none { group.old ≡ [] }
+    ensures { OnOk result (group.new ≡ sample_group) }
 {
-    let mut group = Group::new(alloc);
+    let name = Name::from_slice(alloc, b"f")?;
     group.push(Change::SetEntry {
         entry: Entry {
             dir: 1,
-            name: Name::from_slice(alloc, b"f")?,
+            name,
             ino: 65,
             kind: Kind::File,
         },
@@ -90,10 +109,15 @@ pub(crate) fn file_group(alloc: Global) -> Result<Group, Memory>
         ino: 65,
         inode: file(alloc, 0),
     })?;
-    group.push(Change::SetInode {
-        ino: 1,
-        inode: root(alloc),
-    })?;
+    add_root(alloc, group)
+}
+
+// The group that makes the file `f` on a fresh volume.
+pub(crate) fn file_group(alloc: Global) -> Result<Group, Memory>
+    ensures { IfOk result (λ group. group ≡ sample_group) }
+{
+    let mut group = Group::new(alloc);
+    add_file(alloc, &mut group)?;
     Ok(group)
 }
 
@@ -129,7 +153,7 @@ fn file_page(alloc: Global) -> Result<PageNode, Memory>
 }
 
 // Why a file wasn't made with its page.
-#[derive(Clone, Copy, PartialEq, Eq)]
+#[derive(Clone, Copy)]
 enum CallFault {
     NoSpace { space: NoSpace },
     Store { fault: StoreFault },
@@ -170,6 +194,28 @@ fn put_and_read(
 }
 
 // Makes the file with its page on a fresh volume, asking for so many bytes, and reads the page.
+fn made_on(
+    alloc: Global,
+    backing: &mut PlainBacking,
+    bytes: u64,
+    out: &mut [u8],
+) -> Result<Result<u32, CallFault>, Memory>
+    requires fresh { (backing_state_of backing.old).tree ≡ fresh.tree }
+    requires enough { 384 ≤ bytes }
+    requires few { bytes ≤ 4294967295 }
+    requires out { length out.old ≡ 4096 }
+{
+    let group = file_group(alloc)?;
+    let page = file_page(alloc)?;
+    let need = Need {
+        credits: 1,
+        bytes,
+        nodes: 3,
+        class: Class::Ordinary,
+    };
+    Ok(put_and_read(backing, &need, &group, &page, out))
+}
+
 fn made_and_read(
     alloc: Global,
     bytes: u64,
@@ -179,38 +225,63 @@ fn made_and_read(
     requires few { bytes ≤ 4294967295 }
     requires out { length out.old ≡ 4096 }
 {
-    let mut backing = fresh_backing(alloc)?;
-    let group = file_group(alloc)?;
-    let page = file_page(alloc)?;
-    let need = Need {
-        credits: 1,
-        bytes,
-        nodes: 3,
-        class: Class::Ordinary,
-    };
-    Ok(put_and_read(&mut backing, &need, &group, &page, out))
+    let mut backing = fresh_backing(alloc, 1)?;
+    made_on(alloc, &mut backing, bytes, out)
 }
 
-// A caller of a backing reads the page that it put, or is told that there is no room for what it asks.
+// A caller of a backing reads the page that it put.
 fn what_is_put_is_read(alloc: Global) -> Result<bool, Memory> {
     let mut out = [255; 4096];
-    let read = made_and_read(alloc, 384, &mut out)?;
-    let is_read = read == Ok(3) && out.as_slice().starts_with(b"abc\0".as_slice());
-    match made_and_read(alloc, 1_000_000, &mut out)? {
-        Err(CallFault::NoSpace { space }) => Ok(
-            is_read && (space.need, space.room) == (160 + 4304 + 1_000_000, 514_080),
-        ),
+    match made_and_read(alloc, 384, &mut out)? {
+        Ok(3) => Ok(out.as_slice().starts_with(b"abc\0".as_slice())),
         _ => Ok(false),
     }
 }
 
+// A caller is told that there is no room for what it asks.
+fn want_of_room_is_told(alloc: Global) -> Result<bool, Memory> {
+    let mut out = [255; 4096];
+    match made_and_read(alloc, 1_000_000, &mut out)? {
+        Err(CallFault::NoSpace { space }) => {
+            Ok(space.need == 160 + 4304 + 1_000_000 && space.room == 514_080)
+        }
+        _ => Ok(false),
+    }
+}
+
+// A case that is no run.
+enum Case {
+    LookedUp,
+    Read,
+    NoRoom,
+    ReadOnce,
+    Synced,
+    InACommit,
+}
+
+fn is_right(alloc: Global, case: &Case) -> Result<bool, Memory> {
+    match case {
+        Case::LookedUp => what_is_made_is_looked_up(alloc),
+        Case::Read => what_is_put_is_read(alloc),
+        Case::NoRoom => want_of_room_is_told(alloc),
+        Case::ReadOnce => is_read_once(alloc),
+        Case::Synced => is_synced(alloc),
+        Case::InACommit => is_made_in_a_commit(alloc),
+    }
+}
+
+const CASES: &[(&str, Case)] = &[
+    ("a file is looked up", Case::LookedUp),
+    ("a page is read", Case::Read),
+    ("there is no room", Case::NoRoom),
+    ("a page is read once", Case::ReadOnce),
+    ("a file is synced", Case::Synced),
+    ("a file is made in a commit", Case::InACommit),
+];
+
 #[test]
 fn files_are_looked_up_and_read(rt: HostRuntime) {
-    assert_eq!(rt;
-        (
-            what_is_made_is_looked_up(rt.alloc()),
-            what_is_put_is_read(rt.alloc())
-        ),
-        (Ok(true), Ok(true))
-    );
+    for (name, case) in CASES {
+        assert_eq!(rt; is_right(rt.alloc(), case), Ok(true), "{name}");
+    }
 }

@@ -5,19 +5,26 @@ ghost use Rattle.fs_model.specs.Proper.{IsProper};
 ghost use Rattle.buffered_files.specs.Present.{IsKept};
 ghost use Rattle.plain_backing.specs.PlainBacking.{backing_state_of};
 
-use crate::vfs_ops_tests::{first_wrong, fresh_files};
+use crate::vfs_ops_tests::{Step, first_wrong, fresh_files};
 use buffered_files::{Kept, bytes};
 use fs_model::StoreFault;
 use plain_backing::PlainBacking;
 use std::alloc::Global;
 use ubifs_base::Memory;
 
+const WRITTEN: &[(Step, u64)] = &[
+    (Step::Create(b'f'), 65),
+    (Step::Open(b'f', 0), 65),
+    (Step::Write(0), 4100),
+    (Step::Flush, 0),
+];
+
 // A backing with a file of 4,100 bytes of 7, which is 65.
 fn written_backing(alloc: Global) -> Result<PlainBacking, Memory>
     ensures { IfOk result (λ backing. IsProper (backing_state_of backing).tree) }
 {
-    let mut fs = fresh_files(alloc)?;
-    first_wrong(alloc, &mut fs, b"cowa", &[65, 65, 4100, 0])?;
+    let mut fs = fresh_files(alloc, 1)?;
+    first_wrong(alloc, &mut fs, WRITTEN)?;
     Ok(fs.into_parts())
 }
 
@@ -40,23 +47,22 @@ fn byte_at(
 }
 
 // A page that was read is read again without the backing, of which the next call fails; another page isn't.
-fn is_read_once(alloc: Global) -> Result<bool, Memory> {
-    let mut backing = written_backing(alloc)?;
-    let mut kept = Kept::new(alloc, 4)?;
-    let first = byte_at(alloc, &mut backing, &mut kept, 9);
+fn are_reread(alloc: Global, backing: &mut PlainBacking, kept: &mut Kept) -> bool
+    requires kept { IsKept (backing_state_of backing.old).tree kept.old }
+{
+    let first = byte_at(alloc, backing, kept, 9);
     backing.fail_call(1);
-    let again = byte_at(alloc, &mut backing, &mut kept, 10);
-    let other = byte_at(alloc, &mut backing, &mut kept, 4097);
-    let retried = byte_at(alloc, &mut backing, &mut kept, 4097);
-    Ok(
-        first == Ok(7)
-            && again == Ok(7)
-            && other == Err(StoreFault::Volume { count: 1 })
-            && retried == Ok(7),
-    )
+    let again = byte_at(alloc, backing, kept, 10);
+    let other = byte_at(alloc, backing, kept, 4097);
+    let retried = byte_at(alloc, backing, kept, 4097);
+    first == Ok(7)
+        && again == Ok(7)
+        && other == Err(StoreFault::Volume { count: 1 })
+        && retried == Ok(7)
 }
 
-#[test]
-fn a_page_is_read_once(rt: HostRuntime) {
-    assert_eq!(rt; is_read_once(rt.alloc()), Ok(true));
+pub(crate) fn is_read_once(alloc: Global) -> Result<bool, Memory> {
+    let mut kept = Kept::new(alloc, 4)?;
+    let mut backing = written_backing(alloc)?;
+    Ok(are_reread(alloc, &mut backing, &mut kept))
 }

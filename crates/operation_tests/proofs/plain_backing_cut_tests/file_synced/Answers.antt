@@ -8,10 +8,10 @@ use Rattle.operation_tests.proofs.SampleFits.{proper_on}
 use Rattle.operation_tests.proofs.plain_backing_cut_tests.file_synced.Goals as goal
 
 pub put_and_sync-requires-clause-proper : goal.put_and_sync-requires-clause-proper
-put_and_sync-requires-clause-proper c = proper_on _ c.in_ok-backing.ensures.tree
+put_and_sync-requires-clause-proper c = proper_on _ c.requires.fresh
 
 pub returns-clause-left : goal.returns-clause-left
-returns-clause-left c = λ tree may.
+returns-clause-left c = λ put tree may.
     c.in-Ok-true.ensures.left c.in-Ok-true.field-0-test tree may
-    ∙ ap (λ (tree : Tree). without_nameless (apply tree c.in_ok-group.group)) c.in_ok-backing.ensures.tree
+    ∙ ap (λ (tree : Tree). without_nameless (apply tree c.in_ok-group.group)) c.requires.fresh
     ∙ ap (λ (group : List Change). without_nameless (apply fresh.tree group)) c.in_ok-group.ensures
