@@ -1,5 +1,5 @@
 -- What a write takes and leaves, call by call.
-use Rattle.std.proofs.Common.{◌≡◌, ℕ, ◌+◌, ◌-◌, ◌/◌, ◌<◌, ◌≤◌, inl, inr, Bool, true, false, cond, List, [], ◌∷◌, length, Some, None, Result, Ok, Err, refl, sym, ap, subst, ◌∙◌, arith}
+use Rattle.std.proofs.Common.{◌≡◌, ℕ, ◌+◌, ◌-◌, ◌/◌, ◌<◌, ◌≤◌, inl, inr, Bool, true, false, cond, List, [], ◌∷◌, length, Some, None, Ok, Err, refl, sym, ap, subst, ◌∙◌, arith}
 use Rattle.std.specs.Prelude.{◌==◌, Option, filter, suc, IsTrue, nat_lt}
 use Rattle.std.specs.List.{range_with_len}
 use Rattle.std.specs.Map.{lookup}
@@ -32,7 +32,7 @@ use Rattle.buffered_files.specs.Alike.{IsAlike}
 use Rattle.buffered_files.specs.CallLaws.{Goes-then, Goes-within}
 use Rattle.buffered_files.specs.Calls.{HasCommitted}
 use Rattle.buffered_files.specs.Present.{DirtyPages, newly_dirty}
-use Rattle.vfs_ops.specs.Writing.{HasRoom, IsBuffered, credits_need, write_need}
+use Rattle.vfs_ops.specs.Writing.{IsBuffered, credits_need, write_need}
 use Rattle.vfs_ops.proofs.Admitted.{retyped}
 use Rattle.vfs_ops.proofs.Takes.{alike_sound}
 
@@ -204,13 +204,7 @@ none_dirty dirty ino offs len none =
     let zero : length dirty ≡ length dirty + newly_dirty dirty ino offs 0 = omega arith in
     subst (λ n. length dirty ≡ length dirty + newly_dirty dirty ino offs n) (sym none) zero
 
--- a write is kept in memory whatever name its file's number has
-pub buffered_at : (old new : BackingState) (kept after : Kept) (ino other offs len grant : ℕ) {T : Type 0} (result : Result T Refusal) → ino ≡ other → (HasRoom old kept ino offs len grant → IsBuffered old new kept after ino offs len result)
-    → HasRoom old kept other offs len grant → IsBuffered old new kept after other offs len result
-buffered_at old new kept after ino other offs len grant result same buffered =
-    subst (λ i. HasRoom old kept i offs len grant → IsBuffered old new kept after i offs len result) same buffered
-
--- and where it is refused, whatever it would have answered
+-- a write that is refused is kept in memory whatever it would have answered
 pub buffered_err : (T U : Type 0) (old new : BackingState) (kept after : Kept) (ino offs len : ℕ) (refusal : Refusal) → IsBuffered {T = T} old new kept after ino offs len (Err refusal) → IsBuffered {T = U} old new kept after ino offs len (Err refusal)
 buffered_err T U old new kept after ino offs len refusal buffered =
     record { geometry = buffered.geometry; tree = buffered.tree; journal = buffered.journal; room = retyped T U refusal buffered.room; dirty = tt; refused = buffered.refused }

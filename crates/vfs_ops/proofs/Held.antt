@@ -173,8 +173,8 @@ pub closed_still : (a b c : BackingState) → b.closed ≤ a.closed → c.closed
 closed_still a b c first second = omega (arith, first, second)
 
 -- a fault refuses, and nothing has to come before it
-pub fault_last : (a b : BackingState) (kept : Kept) (need : Need) (plain : Outcome) (r : Refusal) → IsFault a b r → IsRefused a b plain r ⊎ (IsWithoutRoom a b kept need r × IsLast plain r)
-fault_last a b kept need plain r fault = inl (inr fault)
+pub fault_only : (a b : BackingState) (kept : Kept) (need : Need) (plain : Outcome) (r : Refusal) → IsFault a b r → IsRefused a b plain r ⊎ (IsWithoutRoom a b kept need r × IsLast plain r)
+fault_only a b kept need plain r fault = inl (inr fault)
 
 -- a call that puts nothing goes no further than any other
 pub goes_more : (n : ℕ) (a b : BackingState) → Goes 0 a b → Goes n a b

@@ -6,6 +6,7 @@ pub mod Chores
 pub mod Closing
 pub mod Covered
 pub mod Cutting
+pub mod Dispatched
 pub mod Fewer
 pub mod Flushing
 pub mod Gone

@@ -1,12 +1,17 @@
-use Rattle.std.proofs.Common.{◌≡◌, ℕ, ◌+◌, ◌*◌, ap, arith, false, inr, length, max, refl, rules, subst, sym, ◌∙◌}
+use Rattle.std.proofs.Common.{◌≡◌, ℕ, ◌+◌, ◌*◌, ap, arith, false, true, inr, length, max, refl, rules, subst, sym, ◌∙◌, IfOk, Ok}
 use Rattle.std.proofs.lemmas.Bool.{false≢true}
 use Rattle.buffered_files.specs.Present.{present}
 use Rattle.fs_model.specs.Backing.{Goes}
+use Rattle.fs_model.specs.Files.{Files}
+use Rattle.fs_model.specs.Outcome.{Outcome}
+use Rattle.buffered_files.specs.Alike.{IsAlike}
+use Rattle.vfs_ops.specs.Kinds.{is_look}
 use Rattle.buffered_files.specs.Calls.{GrowsBy, added_or_refused}
 use Rattle.buffered_files.specs.Cuts.{group_fate}
 use Rattle.vfs_ops.proofs.Cutting.{call_seen, cut_answered, cut_looked, cut_same}
 use Rattle.vfs_ops.proofs.Admitted.{after_ok, names_admitted, none_admitted, on_ok, other_at_once}
 use Rattle.vfs_ops.proofs.Held.{after_err, clean_grows, clean_issued, clean_paid, clean_same, clean_sound, files_on, goes_more, goes_wider, issued_pages, none_synced, on_err, on_errs, paid_pages, same_kept}
+use Rattle.vfs_ops.proofs.Dispatched.{look_group, look_others, look_refused, look_sync, names_allowed, names_refused}
 use Rattle.vfs_ops.proofs.Looking.{looked, names_early, only_early, opened_looks, unsynced_early}
 use Rattle.vfs_ops.proofs.Others.{idle_on, names_idle, names_leave, others_on}
 use Rattle.vfs_ops.proofs.Serving.{alike_self, done_on, refused_on, ok_map, err_map, at_now, names_synced, or_fault_last, or_unsynced_last, synced_on, unsynced_last}
@@ -404,3 +409,45 @@ returns-in-Read-clause-orphans g c = keeps_few (g.B.Backing.state c.args.backing
 
 pub returns-in-Read-clause-grows : goal.returns-in-Read-clause-grows
 returns-in-Read-clause-grows g c = never (nodes_asked (present (g.B.Backing.state c.args.backing.now).tree c.args.kept.now) c.args.caller c.args.now c.args.op.now) (max 2 (nodes_asked (present (g.B.Backing.state c.args.backing.now).tree c.args.kept.now) c.args.caller c.args.now c.args.op.now)) c.look.result (g.B.Backing.state c.args.backing.now) (g.B.Backing.state c.look.new.backing) c.args.kept.now c.look.new.kept (clean_grows c.look.ensures.looks c.args.kept.now c.look.new.kept c.look.ensures.same)
+
+pub returns-in-Read-clause-admitted : goal.returns-in-Read-clause-admitted
+returns-in-Read-clause-admitted g c =
+    let is : is_look c.args.op.now ≡ true = search rules in
+    after_ok c.look.result (none_admitted (g.B.Backing.state c.args.backing.now) (g.B.Backing.state c.look.new.backing) c.args.kept.now c.args.caller c.args.now c.args.grant c.args.op.now (look_group c.args.op.now is) c.requires.without)
+
+pub returns-in-Read-clause-at_once : goal.returns-in-Read-clause-at_once
+returns-in-Read-clause-at_once g c =
+    let is : is_look c.args.op.now ≡ true = search rules in
+    other_at_once _ (g.B.Backing.state c.args.backing.now) (g.B.Backing.state c.look.new.backing) c.args.kept.now c.args.caller c.args.now c.args.op.now c.look.result (look_group c.args.op.now is)
+
+pub returns-in-Read-clause-idle : goal.returns-in-Read-clause-idle
+returns-in-Read-clause-idle g c =
+    let is : is_look c.args.op.now ≡ true = search rules in
+    λ sync closed. absurd (false≢true (sym (look_sync c.args.op.now is) ∙ sync))
+
+pub returns-in-Read-clause-others : goal.returns-in-Read-clause-others
+returns-in-Read-clause-others g c =
+    let is : is_look c.args.op.now ≡ true = search rules in
+    look_others c.args.kept.now c.look.new.kept c.args.caller c.args.op.now is
+
+pub returns-in-Read-clause-written : goal.returns-in-Read-clause-written
+returns-in-Read-clause-written g c =
+    let is : is_look c.args.op.now ≡ true = search rules in
+    ok_map c.look.result (λ reply h. none_synced (g.B.Backing.state c.args.backing.now).mode (g.B.Backing.state c.look.new.backing) c.args.kept.now c.look.new.kept c.args.caller c.args.op.now reply (look_sync c.args.op.now is)) c.look.ensures.found
+
+pub returns-in-Read-clause-done : goal.returns-in-Read-clause-done
+returns-in-Read-clause-done g c = ok_map c.look.result (λ reply h. done_on (g.B.Backing.state c.args.backing.now) (present (g.B.Backing.state c.args.backing.now).tree c.args.kept.now) (present (g.B.Backing.state c.args.backing.now).tree c.args.kept.now) (present (g.B.Backing.state c.look.new.backing).tree c.look.new.kept) c.args.caller c.args.now c.args.op.now c.args.op.now reply refl (sym c.is_of_names.ensures ∙ c.if-is_of_names.false) (h c.args.now) (clean_same c.look.ensures.looks c.args.kept.now c.look.new.kept c.look.ensures.same)) c.look.ensures.found
+
+pub returns-in-Read-clause-refused : goal.returns-in-Read-clause-refused
+returns-in-Read-clause-refused g c =
+    let is : is_look c.args.op.now ≡ true = search rules in
+    err_map c.look.result (λ refusal h. refused_on (g.B.Backing.state c.args.backing.now) (g.B.Backing.state c.look.new.backing) c.look.new.kept (present (g.B.Backing.state c.args.backing.now).tree c.args.kept.now) c.args.caller c.args.now c.args.grant c.args.op.now c.args.op.now refusal refl (sym c.is_of_names.ensures ∙ c.if-is_of_names.false) (look_refused (g.B.Backing.state c.args.backing.now) (g.B.Backing.state c.look.new.backing) c.look.new.kept _ c.args.op.now _ refusal is (h c.args.now))) c.look.ensures.refused
+
+pub returns-then-is_of_names-clause-done : goal.returns-then-is_of_names-clause-done
+returns-then-is_of_names-clause-done g c =
+    let same = names_allowed (g.B.Backing.state c.args.backing.now) (present (g.B.Backing.state c.args.backing.now).tree c.args.kept.now) c.args.caller c.args.now c.args.op.now (sym c.is_of_names.ensures ∙ c.if-is_of_names.true) in
+    let last = present (g.B.Backing.state c.change.new.backing).tree c.change.new.kept in
+    subst (λ (o : Outcome). IfOk c.change.result (λ reply. (after : Files) × (o ≡ Ok (reply, after)) × IsAlike after last)) (sym same) c.change.ensures.done
+
+pub returns-then-is_of_names-clause-refused : goal.returns-then-is_of_names-clause-refused
+returns-then-is_of_names-clause-refused g c = err_map c.change.result (λ refusal h. names_refused (g.B.Backing.state c.args.backing.now) (g.B.Backing.state c.change.new.backing) c.change.new.kept (present (g.B.Backing.state c.args.backing.now).tree c.args.kept.now) c.args.caller c.args.now c.args.grant c.args.op.now refusal (sym c.is_of_names.ensures ∙ c.if-is_of_names.true) h) c.change.ensures.refused

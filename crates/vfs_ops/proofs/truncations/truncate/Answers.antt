@@ -16,7 +16,7 @@ use Rattle.buffered_files.specs.Cuts.{refused_fate}
 use Rattle.buffered_files.specs.Cuts.GroupFate.{WasPut}
 use Rattle.vfs_ops.proofs.Buffering.{at_hand, open_file}
 use Rattle.vfs_ops.proofs.Cutting.{call_refused, cut_looked, cut_same}
-use Rattle.vfs_ops.proofs.Held.{closed_few, closed_then, fault_at_once, fault_last, goes_none, grows_looked, grows_none, issued_on, issued_then, kept_on, no_more, paid_on, same_on}
+use Rattle.vfs_ops.proofs.Held.{closed_few, closed_then, fault_at_once, fault_only, goes_none, grows_looked, grows_none, issued_on, issued_then, kept_on, no_more, paid_on, same_on}
 use Rattle.vfs_ops.proofs.Looking.{looked, room_late, same_looks}
 use Rattle.vfs_ops.proofs.NewSize.{PassesSize, file_kind, passes, resized_files, size_admitted, size_alone, size_cut, size_done, size_goes, size_grows, size_ok, size_refused, size_room, size_sound, size_test}
 use Rattle.vfs_ops.proofs.Serving.{alike_self}
@@ -292,7 +292,7 @@ pub returns-in_err-inode-clause-refused : goal.returns-in_err-inode-clause-refus
 returns-in_err-inode-clause-refused g c =
     let files = present (g.B.Backing.state c.args.backing.now).tree c.args.kept.now in
     let op = Truncate c.args.slot c.args.size in
-    let refused = fault_last (g.B.Backing.state c.args.backing.now) (g.B.Backing.state c.measured.new.backing) c.args.kept.now (need_of files c.args.caller c.args.now op) (outcome_of files c.args.caller c.args.now op) c.in_err-inode.field-0.0 c.in_err-inode.ensures.refused in
+    let refused = fault_only (g.B.Backing.state c.args.backing.now) (g.B.Backing.state c.measured.new.backing) c.args.kept.now (need_of files c.args.caller c.args.now op) (outcome_of files c.args.caller c.args.now op) c.in_err-inode.field-0.0 c.in_err-inode.ensures.refused in
     search (rules, refused)
 
 pub set_size-requires-clause-paid : goal.set_size-requires-clause-paid
