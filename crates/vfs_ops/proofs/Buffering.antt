@@ -12,7 +12,8 @@ use Rattle.fs_model.specs.declared.inode.Inode.{Inode}
 use Rattle.fs_model.specs.declared.inode.Kind.{Kind}
 use Rattle.fs_model.specs.declared.inode.Kind.TheVariants.{File, Dir, Symlink, Block, Char, Fifo, Socket}
 use Rattle.fs_model.specs.declared.refusal.NoSpace.{NoSpace}
-use Rattle.fs_model.specs.declared.refusal.Refusal.TheVariants.{Einval, Efbig}
+use Rattle.fs_model.specs.declared.refusal.Refusal.{Refusal}
+use Rattle.fs_model.specs.declared.refusal.Refusal.TheVariants.{Einval, Efbig, Ebadf}
 use Rattle.fs_model.specs.declared.reply.Reply.{Reply}
 use Rattle.fs_model.specs.declared.reply.Reply.TheVariants.{Count}
 use Rattle.fs_model.specs.declared.space.Need.{Need}
@@ -31,7 +32,8 @@ use Rattle.buffered_files.specs.Alike.{IsAlike}
 use Rattle.buffered_files.specs.CallLaws.{Goes-then, Goes-within}
 use Rattle.buffered_files.specs.Calls.{HasCommitted}
 use Rattle.buffered_files.specs.Present.{DirtyPages, newly_dirty}
-use Rattle.vfs_ops.specs.Writing.{credits_need, write_need}
+use Rattle.vfs_ops.specs.Writing.{IsBuffered, credits_need, write_need}
+use Rattle.vfs_ops.proofs.Admitted.{retyped}
 use Rattle.vfs_ops.proofs.Takes.{alike_sound}
 
 fewer : (test : ℕ → Bool) (pages : List ℕ) → length (filter test pages) ≤ length pages
@@ -191,3 +193,18 @@ pub sound_written : (files after b : Files) (reply : Reply) (outcome : Outcome) 
 sound_written files after b reply outcome is leaves alike proper =
     let sound : IsSound after = subst (λ (o : Outcome). IsSound (files_in files o)) is leaves.sound in
     alike_sound after b alike proper sound
+
+-- nor is it where the slot isn't open
+pub unopened : (files : Files) (caller now slot offs len byte : ℕ) → is_bad_slot slot ≡ false → nat_lt 65536 len ≡ false → handle_at files caller slot ≡ None → bytes_written files caller now slot offs len byte ≡ Err Ebadf
+unopened files caller now slot offs len byte good fits none = rw (good, fits, none) refl
+
+-- a write of nothing makes no page dirty
+pub none_dirty : (dirty : DirtyPages) (ino offs len : ℕ) → len ≡ 0 → length dirty ≡ length dirty + newly_dirty dirty ino offs len
+none_dirty dirty ino offs len none =
+    let zero : length dirty ≡ length dirty + newly_dirty dirty ino offs 0 = omega arith in
+    subst (λ n. length dirty ≡ length dirty + newly_dirty dirty ino offs n) (sym none) zero
+
+-- a write that is refused is kept in memory whatever it would have answered
+pub buffered_err : (T U : Type 0) (old new : BackingState) (kept after : Kept) (ino offs len : ℕ) (refusal : Refusal) → IsBuffered {T = T} old new kept after ino offs len (Err refusal) → IsBuffered {T = U} old new kept after ino offs len (Err refusal)
+buffered_err T U old new kept after ino offs len refusal buffered =
+    record { geometry = buffered.geometry; tree = buffered.tree; journal = buffered.journal; room = retyped T U refusal buffered.room; dirty = tt; refused = buffered.refused }

@@ -4,11 +4,14 @@ pub mod Asking
 pub mod Buffering
 pub mod Chores
 pub mod Closing
+pub mod Covered
 pub mod Cutting
+pub mod Dispatched
 pub mod Fewer
 pub mod Flushing
 pub mod Gone
 pub mod Groups
+pub mod Held
 pub mod Looking
 pub mod Named
 pub mod Nameless

@@ -1,17 +1,19 @@
-use Rattle.std.proofs.Common.{◌≡◌, ℕ, ◌+◌, ◌-◌, ◌*◌, ap, arith, max, refl, subst, sym}
+use Rattle.std.proofs.Common.{◌≡◌, ℕ, ◌+◌, ◌-◌, ◌*◌, ap, arith, length, max, refl, subst, sym}
 use Rattle.std.proofs.lemmas.Bool.{false≢true}
 use Rattle.fs_model.specs.declared.reply.Reply.{Reply}
 use Rattle.fs_model.specs.declared.op.Op.{Op}
 use Rattle.vfs_plans.specs.Operations.{is_truncate}
 use Rattle.vfs_ops.specs.Operations.{has_group, is_of_names, nodes_asked}
 use Rattle.vfs_ops.specs.Steps.{WasAdmitted}
-use Rattle.vfs_ops.specs.Writing.{newly_by}
+use Rattle.vfs_ops.specs.Writing.{Buffers, newly_by, write_need}
 use Rattle.vfs_ops.proofs.Cutting.{cut_answered}
 use Rattle.vfs_ops.proofs.Admitted.{on_ok, other_at_once, retyped}
 use Rattle.vfs_ops.proofs.Looking.{only_early, whole_left}
 use Rattle.vfs_ops.proofs.Others.{idle_on, others_on}
-use Rattle.vfs_ops.proofs.Serving.{none_buffered, not_write, ok_map}
-use Rattle.fs_model.specs.Legal.{pages_in}
+use Rattle.vfs_ops.proofs.Serving.{done_on, err_map, none_buffered, not_write, ok_map, refused_on}
+use Rattle.vfs_ops.proofs.Held.{goes_wider, none_synced}
+use Rattle.vfs_ops.proofs.NewSize.{size_turned}
+use Rattle.fs_model.specs.Legal.{is_sync, pages_in}
 use Rattle.buffered_files.specs.Present.{present}
 use Rattle.vfs_ops.proofs.Orphaning.{write_keep}
 use Rattle.vfs_ops.proofs.Weighing.{refused_wider, write_weighs}
@@ -92,3 +94,24 @@ returns-in-Write-clause-idle g c =
 
 pub returns-in-Ok-clause-idle : goal.returns-in-Ok-clause-idle
 returns-in-Ok-clause-idle g c = c.in-Ok.ensures.idle
+
+pub returns-in-Write-clause-ready : goal.returns-in-Write-clause-ready
+returns-in-Write-clause-ready g c = record { kept_fits = c.write.ensures.kept; paid = c.write.ensures.paid; sound = c.write.ensures.sound }
+
+pub returns-in-Write-clause-done : goal.returns-in-Write-clause-done
+returns-in-Write-clause-done g c = ok_map c.write.result (λ r h. done_on (g.B.Backing.state c.args.backing.now) (present (g.B.Backing.state c.args.backing.now).tree c.args.kept.now) h.0 (present (g.B.Backing.state c.write.new.backing).tree c.write.new.kept) c.args.caller c.args.now c.args.op.now _ r.0 c.in-Write.is refl h.1 h.2) c.write.ensures.done
+
+pub returns-in-Write-clause-written : goal.returns-in-Write-clause-written
+returns-in-Write-clause-written g c = ok_map c.write.result (λ r h. none_synced (g.B.Backing.state c.args.backing.now).mode (g.B.Backing.state c.write.new.backing) c.args.kept.now c.write.new.kept c.args.caller c.args.op.now r.0 (ap is_sync c.in-Write.is)) c.write.ensures.done
+
+pub returns-in-Write-clause-buffered : goal.returns-in-Write-clause-buffered
+returns-in-Write-clause-buffered g c = subst (λ (o : Op). Buffers (g.B.Backing.state c.args.backing.now) (g.B.Backing.state c.write.new.backing) c.args.kept.now c.write.new.kept c.args.caller c.args.grant o c.write.result) (sym c.in-Write.is) c.write.ensures.buffered
+
+pub returns-in-Write-clause-goes : goal.returns-in-Write-clause-goes
+returns-in-Write-clause-goes g c = goes_wider (2 * length c.args.kept.now.pages.dirty) _ (g.B.Backing.state c.args.backing.now) (g.B.Backing.state c.write.new.backing) c.write.ensures.goes
+
+pub returns-in-Write-clause-refused : goal.returns-in-Write-clause-refused
+returns-in-Write-clause-refused g c = err_map c.write.result (λ refusal h. refused_on (g.B.Backing.state c.args.backing.now) (g.B.Backing.state c.write.new.backing) c.write.new.kept (present (g.B.Backing.state c.args.backing.now).tree c.args.kept.now) c.args.caller c.args.now c.args.grant c.args.op.now _ refusal c.in-Write.is refl (size_turned (g.B.Backing.state c.args.backing.now) (g.B.Backing.state c.write.new.backing) c.write.new.kept (write_need c.in-Write.offs c.in-Write.len c.args.grant) _ refusal h)) c.write.ensures.refused
+
+pub returns-in-Ok-clause-buffered : goal.returns-in-Ok-clause-buffered
+returns-in-Ok-clause-buffered g c = none_buffered (g.B.Backing.state c.args.backing.now) (g.B.Backing.state c.serve_without.new.backing) c.args.kept.now c.serve_without.new.kept c.args.caller c.args.grant c.args.op.now _ (not_write c.args.op.now c.in_default.not-Write)

@@ -1,12 +1,18 @@
-use Rattle.std.proofs.Common.{◌≡◌, ℕ, ◌+◌, ◌*◌, ap, arith, false, inr, length, max, refl, rules, subst, sym, ◌∙◌}
+use Rattle.std.proofs.Common.{◌≡◌, ℕ, ◌+◌, ◌*◌, ap, arith, false, true, inr, length, max, refl, rules, subst, sym, ◌∙◌, IfOk, Ok}
 use Rattle.std.proofs.lemmas.Bool.{false≢true}
 use Rattle.buffered_files.specs.Present.{present}
 use Rattle.fs_model.specs.Backing.{Goes}
+use Rattle.fs_model.specs.Files.{Files}
+use Rattle.fs_model.specs.Outcome.{Outcome}
+use Rattle.buffered_files.specs.Alike.{IsAlike}
+use Rattle.vfs_ops.specs.Kinds.{is_look}
 use Rattle.buffered_files.specs.Calls.{GrowsBy, added_or_refused}
 use Rattle.buffered_files.specs.Cuts.{group_fate}
 use Rattle.vfs_ops.proofs.Cutting.{call_seen, cut_answered, cut_looked, cut_same}
 use Rattle.vfs_ops.proofs.Admitted.{after_ok, names_admitted, none_admitted, on_ok, other_at_once}
-use Rattle.vfs_ops.proofs.Looking.{names_early, only_early, opened_looks, unsynced_early}
+use Rattle.vfs_ops.proofs.Held.{after_err, clean_grows, clean_issued, clean_paid, clean_same, clean_sound, files_on, goes_more, goes_wider, issued_pages, none_synced, on_err, on_errs, paid_pages, same_kept}
+use Rattle.vfs_ops.proofs.Dispatched.{look_group, look_others, look_refused, look_sync, names_allowed, names_refused}
+use Rattle.vfs_ops.proofs.Looking.{looked, names_early, only_early, opened_looks, unsynced_early}
 use Rattle.vfs_ops.proofs.Others.{idle_on, names_idle, names_leave, others_on}
 use Rattle.vfs_ops.proofs.Serving.{alike_self, done_on, refused_on, ok_map, err_map, at_now, names_synced, or_fault_last, or_unsynced_last, synced_on, unsynced_last}
 use Rattle.page_cache.specs.Pages.{Pages}
@@ -15,11 +21,12 @@ use Rattle.vfs_ops.specs.Operations.{has_group, is_of_names, nodes_asked}
 use Rattle.fs_model.specs.declared.op.Op.{Op}
 use Rattle.vfs_ops.specs.Events.{PutsCall}
 use Rattle.vfs_ops.specs.Steps.{IsAtOnce, WasAdmitted}
+use Rattle.fs_model.specs.Legal.{is_sync}
 use Rattle.vfs_ops.proofs.NewSize.{size_keep, size_turned}
 use Rattle.vfs_ops.proofs.Orphaning.{keeps_alike, keeps_few, looked_orphans, names_keep}
 use Rattle.vfs_ops.proofs.Takes.{not_truncate}
 use Rattle.vfs_ops.proofs.Truncating.{nodes_are}
-use Rattle.vfs_ops.proofs.Weighing.{no_heavier, wider}
+use Rattle.vfs_ops.proofs.Weighing.{never, no_heavier, wider}
 use Rattle.vfs_ops.proofs.answers.serve_without.Goals as goal
 
 pub returns-in-OpenFile-clause-done : goal.returns-in-OpenFile-clause-done
@@ -285,3 +292,162 @@ returns-in-Truncate-clause-orphans g c =
 pub returns-in-Truncate-clause-idle : goal.returns-in-Truncate-clause-idle
 returns-in-Truncate-clause-idle g c =
     idle_on (g.B.Backing.state c.args.backing.now) (g.B.Backing.state c.truncate.new.backing) c.args.kept.now c.truncate.new.kept c.args.op.now _ c.in-Truncate.is (λ sync closed. absurd (false≢true sync))
+
+pub returns-then-is_of_names-clause-ready : goal.returns-then-is_of_names-clause-ready
+returns-then-is_of_names-clause-ready g c = record { kept_fits = c.change.ensures.kept; paid = c.change.ensures.paid; sound = c.change.ensures.sound }
+
+pub returns-then-is_of_names-clause-issued : goal.returns-then-is_of_names-clause-issued
+returns-then-is_of_names-clause-issued g c = c.change.ensures.issued
+
+pub returns-then-is_of_names-clause-sure : goal.returns-then-is_of_names-clause-sure
+returns-then-is_of_names-clause-sure g c = c.change.ensures.sure
+
+pub returns-then-is_of_names-clause-same : goal.returns-then-is_of_names-clause-same
+returns-then-is_of_names-clause-same g c = c.change.ensures.same
+
+pub returns-in-Close-clause-ready : goal.returns-in-Close-clause-ready
+returns-in-Close-clause-ready g c = record { kept_fits = c.close.ensures.kept; paid = c.close.ensures.paid; sound = c.close.ensures.sound }
+
+pub returns-in-Close-clause-issued : goal.returns-in-Close-clause-issued
+returns-in-Close-clause-issued g c = c.close.ensures.issued
+
+pub returns-in-Close-clause-sure : goal.returns-in-Close-clause-sure
+returns-in-Close-clause-sure g c = c.close.ensures.sure
+
+pub returns-in-Truncate-clause-ready : goal.returns-in-Truncate-clause-ready
+returns-in-Truncate-clause-ready g c = record { kept_fits = c.truncate.ensures.kept; paid = c.truncate.ensures.paid; sound = c.truncate.ensures.sound }
+
+pub returns-in-Truncate-clause-issued : goal.returns-in-Truncate-clause-issued
+returns-in-Truncate-clause-issued g c = c.truncate.ensures.issued
+
+pub returns-in-Truncate-clause-sure : goal.returns-in-Truncate-clause-sure
+returns-in-Truncate-clause-sure g c = c.truncate.ensures.sure
+
+pub returns-in-Truncate-clause-same : goal.returns-in-Truncate-clause-same
+returns-in-Truncate-clause-same g c = c.truncate.ensures.same
+
+pub returns-in-Fsync-clause-ready : goal.returns-in-Fsync-clause-ready
+returns-in-Fsync-clause-ready g c = c.synced.ensures.ready
+
+pub returns-in-Fsync-clause-issued : goal.returns-in-Fsync-clause-issued
+returns-in-Fsync-clause-issued g c = c.synced.ensures.issued
+
+pub returns-in-Fsync-clause-sure : goal.returns-in-Fsync-clause-sure
+returns-in-Fsync-clause-sure g c = c.synced.ensures.sure
+
+pub returns-in-Fsync-clause-same : goal.returns-in-Fsync-clause-same
+returns-in-Fsync-clause-same g c = after_err c.synced.result c.synced.ensures.same
+
+pub returns-in-Fsync-clause-goes : goal.returns-in-Fsync-clause-goes
+returns-in-Fsync-clause-goes g c = goes_wider (2 * length c.args.kept.now.pages.dirty) _ (g.B.Backing.state c.args.backing.now) (g.B.Backing.state c.synced.new.backing) c.synced.ensures.goes
+
+pub returns-in-Flush-clause-ready : goal.returns-in-Flush-clause-ready
+returns-in-Flush-clause-ready g c = c.flushed.ensures.ready
+
+pub returns-in-Flush-clause-issued : goal.returns-in-Flush-clause-issued
+returns-in-Flush-clause-issued g c = c.flushed.ensures.issued
+
+pub returns-in-Flush-clause-sure : goal.returns-in-Flush-clause-sure
+returns-in-Flush-clause-sure g c = c.flushed.ensures.sure
+
+pub returns-in-Flush-clause-same : goal.returns-in-Flush-clause-same
+returns-in-Flush-clause-same g c = after_err c.flushed.result c.flushed.ensures.same
+
+pub returns-in-Flush-clause-goes : goal.returns-in-Flush-clause-goes
+returns-in-Flush-clause-goes g c = goes_wider (2 * length c.args.kept.now.pages.dirty) _ (g.B.Backing.state c.args.backing.now) (g.B.Backing.state c.flushed.new.backing) c.flushed.ensures.goes
+
+pub returns-in-OpenFile-clause-ready : goal.returns-in-OpenFile-clause-ready
+returns-in-OpenFile-clause-ready g c = record { kept_fits = c.open.ensures.kept; paid = paid_pages c.open.ensures.looks c.args.kept.now.pages c.open.new.kept.pages c.open.ensures.pages c.requires.ready.paid; sound = c.open.ensures.sound }
+
+pub returns-in-OpenFile-clause-issued : goal.returns-in-OpenFile-clause-issued
+returns-in-OpenFile-clause-issued g c = issued_pages c.open.ensures.looks c.args.kept.now.pages c.open.new.kept.pages c.open.ensures.pages
+
+pub returns-in-OpenFile-clause-sure : goal.returns-in-OpenFile-clause-sure
+returns-in-OpenFile-clause-sure g c = c.open.ensures.looks.sure
+
+pub returns-in-OpenFile-clause-goes : goal.returns-in-OpenFile-clause-goes
+returns-in-OpenFile-clause-goes g c = goes_more _ (g.B.Backing.state c.args.backing.now) (g.B.Backing.state c.open.new.backing) c.open.ensures.looks.goes
+
+pub returns-in-OpenFile-clause-same : goal.returns-in-OpenFile-clause-same
+returns-in-OpenFile-clause-same g c = on_err c.open.result (λ same. same_kept (g.B.Backing.state c.args.backing.now) (g.B.Backing.state c.open.new.backing) c.args.kept.now c.open.new.kept same (files_on c.open.ensures.looks)) c.open.ensures.same
+
+pub returns-in-Close-clause-goes : goal.returns-in-Close-clause-goes
+returns-in-Close-clause-goes g c = goes_more _ (g.B.Backing.state c.args.backing.now) (g.B.Backing.state c.close.new.backing) c.close.ensures.goes
+
+pub returns-in-Close-clause-same : goal.returns-in-Close-clause-same
+returns-in-Close-clause-same g c = on_errs c.close.result (λ same files. same_kept (g.B.Backing.state c.args.backing.now) (g.B.Backing.state c.close.new.backing) c.args.kept.now c.close.new.kept same files) c.close.ensures.same c.close.ensures.files
+
+pub returns-in-OpenFile-clause-written : goal.returns-in-OpenFile-clause-written
+returns-in-OpenFile-clause-written g c = ok_map c.open.result (λ reply h. none_synced (g.B.Backing.state c.args.backing.now).mode (g.B.Backing.state c.open.new.backing) c.args.kept.now c.open.new.kept c.args.caller c.args.op.now reply (ap is_sync c.in-OpenFile.is)) c.open.ensures.done
+
+pub returns-in-Close-clause-written : goal.returns-in-Close-clause-written
+returns-in-Close-clause-written g c = ok_map c.close.result (λ reply h. none_synced (g.B.Backing.state c.args.backing.now).mode (g.B.Backing.state c.close.new.backing) c.args.kept.now c.close.new.kept c.args.caller c.args.op.now reply (ap is_sync c.in-Close.is)) c.close.ensures.done
+
+pub returns-in-Truncate-clause-written : goal.returns-in-Truncate-clause-written
+returns-in-Truncate-clause-written g c = ok_map c.truncate.result (λ reply h. none_synced (g.B.Backing.state c.args.backing.now).mode (g.B.Backing.state c.truncate.new.backing) c.args.kept.now c.truncate.new.kept c.args.caller c.args.op.now reply (ap is_sync c.in-Truncate.is)) c.truncate.ensures.done
+
+pub returns-in-Read-clause-ready : goal.returns-in-Read-clause-ready
+returns-in-Read-clause-ready g c = record { kept_fits = c.look.ensures.kept; paid = clean_paid c.look.ensures.looks c.args.kept.now c.look.new.kept c.look.ensures.same c.requires.ready.paid; sound = clean_sound c.look.ensures.looks c.args.kept.now c.look.new.kept c.look.ensures.same c.requires.ready.sound }
+
+pub returns-in-Read-clause-issued : goal.returns-in-Read-clause-issued
+returns-in-Read-clause-issued g c = clean_issued c.look.ensures.looks c.args.kept.now c.look.new.kept c.look.ensures.same
+
+pub returns-in-Read-clause-sure : goal.returns-in-Read-clause-sure
+returns-in-Read-clause-sure g c = c.look.ensures.looks.sure
+
+pub returns-in-Read-clause-goes : goal.returns-in-Read-clause-goes
+returns-in-Read-clause-goes g c = goes_more _ (g.B.Backing.state c.args.backing.now) (g.B.Backing.state c.look.new.backing) c.look.ensures.looks.goes
+
+pub returns-in-Read-clause-same : goal.returns-in-Read-clause-same
+returns-in-Read-clause-same g c = after_err c.look.result (clean_same c.look.ensures.looks c.args.kept.now c.look.new.kept c.look.ensures.same)
+
+pub returns-in-Read-clause-looked : goal.returns-in-Read-clause-looked
+returns-in-Read-clause-looked g c asks = looked c.look.ensures.looks c.args.kept.now c.look.new.kept c.look.ensures.same
+
+pub returns-in-Read-clause-orphans : goal.returns-in-Read-clause-orphans
+returns-in-Read-clause-orphans g c = keeps_few (g.B.Backing.state c.args.backing.now) (g.B.Backing.state c.look.new.backing) (present (g.B.Backing.state c.args.backing.now).tree c.args.kept.now) (present (g.B.Backing.state c.look.new.backing).tree c.look.new.kept) (looked_orphans c.look.ensures.looks)
+
+pub returns-in-Read-clause-grows : goal.returns-in-Read-clause-grows
+returns-in-Read-clause-grows g c = never (nodes_asked (present (g.B.Backing.state c.args.backing.now).tree c.args.kept.now) c.args.caller c.args.now c.args.op.now) (max 2 (nodes_asked (present (g.B.Backing.state c.args.backing.now).tree c.args.kept.now) c.args.caller c.args.now c.args.op.now)) c.look.result (g.B.Backing.state c.args.backing.now) (g.B.Backing.state c.look.new.backing) c.args.kept.now c.look.new.kept (clean_grows c.look.ensures.looks c.args.kept.now c.look.new.kept c.look.ensures.same)
+
+pub returns-in-Read-clause-admitted : goal.returns-in-Read-clause-admitted
+returns-in-Read-clause-admitted g c =
+    let is : is_look c.args.op.now ≡ true = search rules in
+    after_ok c.look.result (none_admitted (g.B.Backing.state c.args.backing.now) (g.B.Backing.state c.look.new.backing) c.args.kept.now c.args.caller c.args.now c.args.grant c.args.op.now (look_group c.args.op.now is) c.requires.without)
+
+pub returns-in-Read-clause-at_once : goal.returns-in-Read-clause-at_once
+returns-in-Read-clause-at_once g c =
+    let is : is_look c.args.op.now ≡ true = search rules in
+    other_at_once _ (g.B.Backing.state c.args.backing.now) (g.B.Backing.state c.look.new.backing) c.args.kept.now c.args.caller c.args.now c.args.op.now c.look.result (look_group c.args.op.now is)
+
+pub returns-in-Read-clause-idle : goal.returns-in-Read-clause-idle
+returns-in-Read-clause-idle g c =
+    let is : is_look c.args.op.now ≡ true = search rules in
+    λ sync closed. absurd (false≢true (sym (look_sync c.args.op.now is) ∙ sync))
+
+pub returns-in-Read-clause-others : goal.returns-in-Read-clause-others
+returns-in-Read-clause-others g c =
+    let is : is_look c.args.op.now ≡ true = search rules in
+    look_others c.args.kept.now c.look.new.kept c.args.caller c.args.op.now is
+
+pub returns-in-Read-clause-written : goal.returns-in-Read-clause-written
+returns-in-Read-clause-written g c =
+    let is : is_look c.args.op.now ≡ true = search rules in
+    ok_map c.look.result (λ reply h. none_synced (g.B.Backing.state c.args.backing.now).mode (g.B.Backing.state c.look.new.backing) c.args.kept.now c.look.new.kept c.args.caller c.args.op.now reply (look_sync c.args.op.now is)) c.look.ensures.found
+
+pub returns-in-Read-clause-done : goal.returns-in-Read-clause-done
+returns-in-Read-clause-done g c = ok_map c.look.result (λ reply h. done_on (g.B.Backing.state c.args.backing.now) (present (g.B.Backing.state c.args.backing.now).tree c.args.kept.now) (present (g.B.Backing.state c.args.backing.now).tree c.args.kept.now) (present (g.B.Backing.state c.look.new.backing).tree c.look.new.kept) c.args.caller c.args.now c.args.op.now c.args.op.now reply refl (sym c.is_of_names.ensures ∙ c.if-is_of_names.false) (h c.args.now) (clean_same c.look.ensures.looks c.args.kept.now c.look.new.kept c.look.ensures.same)) c.look.ensures.found
+
+pub returns-in-Read-clause-refused : goal.returns-in-Read-clause-refused
+returns-in-Read-clause-refused g c =
+    let is : is_look c.args.op.now ≡ true = search rules in
+    err_map c.look.result (λ refusal h. refused_on (g.B.Backing.state c.args.backing.now) (g.B.Backing.state c.look.new.backing) c.look.new.kept (present (g.B.Backing.state c.args.backing.now).tree c.args.kept.now) c.args.caller c.args.now c.args.grant c.args.op.now c.args.op.now refusal refl (sym c.is_of_names.ensures ∙ c.if-is_of_names.false) (look_refused (g.B.Backing.state c.args.backing.now) (g.B.Backing.state c.look.new.backing) c.look.new.kept _ c.args.op.now _ refusal is (h c.args.now))) c.look.ensures.refused
+
+pub returns-then-is_of_names-clause-done : goal.returns-then-is_of_names-clause-done
+returns-then-is_of_names-clause-done g c =
+    let same = names_allowed (g.B.Backing.state c.args.backing.now) (present (g.B.Backing.state c.args.backing.now).tree c.args.kept.now) c.args.caller c.args.now c.args.op.now (sym c.is_of_names.ensures ∙ c.if-is_of_names.true) in
+    let last = present (g.B.Backing.state c.change.new.backing).tree c.change.new.kept in
+    subst (λ (o : Outcome). IfOk c.change.result (λ reply. (after : Files) × (o ≡ Ok (reply, after)) × IsAlike after last)) (sym same) c.change.ensures.done
+
+pub returns-then-is_of_names-clause-refused : goal.returns-then-is_of_names-clause-refused
+returns-then-is_of_names-clause-refused g c = err_map c.change.result (λ refusal h. names_refused (g.B.Backing.state c.args.backing.now) (g.B.Backing.state c.change.new.backing) c.change.new.kept (present (g.B.Backing.state c.args.backing.now).tree c.args.kept.now) c.args.caller c.args.now c.args.grant c.args.op.now refusal (sym c.is_of_names.ensures ∙ c.if-is_of_names.true) h) c.change.ensures.refused

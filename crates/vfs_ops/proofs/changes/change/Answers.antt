@@ -1,8 +1,9 @@
-use Rattle.std.proofs.Common.{◌≡◌, ◌+◌, ◌∙◌, arith, max, rules, refl, true, false, ◌&&◌, inl, inr, Err, length, sym, ap, subst, List}
+use Rattle.std.proofs.Common.{◌≡◌, ℕ, ◌≤◌, ◌+◌, ◌∙◌, max, rules, refl, true, false, ◌&&◌, inl, inr, Err, length, sym, ap, subst, List}
 use Rattle.std.specs.Prelude.{◌==◌, ◌-◌}
 use Rattle.fs_model.specs.Orphan.{nameless}
 use Rattle.fs_model.specs.declared.change.Change.{Change}
 use Rattle.fs_model.specs.declared.space.Grant.{Grant}
+use Rattle.fs_model.specs.declared.space.Need.{Need}
 use Rattle.fs_model.specs.Backing.{BackingState, FitsGroup, FitsOrphans, IsModest, orphan_room}
 use Rattle.fs_model.specs.Change.{apply}
 use Rattle.fs_model.specs.Need.{need_of}
@@ -15,8 +16,9 @@ use Rattle.buffered_files.specs.Cuts.GroupFate.{NotPut, WasPut}
 use Rattle.vfs_ops.proofs.Cutting.{cut_looked, cut_refused, cut_with, looked_put, no_changes}
 use Rattle.vfs_ops.proofs.Admitted.{alone_whole, fits_once, group_admitted, plan_refused}
 use Rattle.vfs_ops.proofs.Groups.{AreFitting, group_fits, leaves, names_of}
+use Rattle.vfs_ops.proofs.Held.{closed_few, closed_then, fault_at_once, fault_turned, grows_looked, issued_on, issued_then, kept_on, no_more, paid_on, plan_turned, same_on, same_then, sure_then}
 use Rattle.vfs_ops.proofs.Looking.{looked, room_late}
-use Rattle.vfs_ops.proofs.Orphans.{closed_on, within_none, within_full, within_done, done_alike, orphans_fit, orphan_room_on, orphan_limit_on}
+use Rattle.vfs_ops.proofs.Orphans.{within_none, within_full, within_done, done_alike, orphans_fit, orphan_room_on, orphan_limit_on}
 use Rattle.vfs_ops.proofs.States.{both, tree_on}
 use Rattle.vfs_ops.proofs.Takes.{alike_on, alike_sound, sound_done, sound_on, fits_on, goes_looked, goes_whole, group_is, need_whole, not_truncate, pays_whole, refused_whole, last_done}
 use Rattle.vfs_ops.proofs.Truncating.{nodes_are}
@@ -26,8 +28,8 @@ use Rattle.std.proofs.lemmas.Bool.{eqb-true}
 use Rattle.fs_model.specs.declared.refusal.Refusal.TheVariants.{Enfile}
 use Rattle.fs_model.specs.declared.refusal.Table.TheVariants.{Orphans as OrphanTable}
 use Rattle.fs_model.specs.declared.reply.Reply.{Reply}
-use Rattle.buffered_files.specs.Calls.{added_or_refused}
-use Rattle.vfs_ops.proofs.Weighing.{after_look, no_heavier, refused_wider}
+use Rattle.buffered_files.specs.Calls.{GrowsBy, added_or_refused}
+use Rattle.vfs_ops.proofs.Weighing.{after_look, never, refused_wider}
 use Rattle.vfs_ops.proofs.changes.change.Goals as goal
 
 -- the group of the plan is that of the operation, and fits
@@ -284,19 +286,21 @@ returns-in_err-apply_group-clause-early g c =
 
 pub returns-in_err-reply-clause-grows : goal.returns-in_err-reply-clause-grows
 returns-in_err-reply-clause-grows g c =
-    let none = no_heavier 0 (g.B.Backing.state c.args.backing.now) (g.B.Backing.state c.plan.new.backing) c.args.kept.now c.args.kept.now c.plan.ensures.looks.goes (omega arith) in
-    omega (arith, none)
+    let n = length (group_of (present (g.B.Backing.state c.args.backing.now).tree c.args.kept.now) c.args.caller c.args.now c.args.op.now) in
+    let none = never {T = Reply} n (max 2 n) (Err c.in_err-reply.field-0.0) (g.B.Backing.state c.args.backing.now) (g.B.Backing.state c.plan.new.backing) c.args.kept.now c.args.kept.now (grows_looked c.plan.ensures.looks 0 c.args.kept.now) in
+    search (rules, none)
 
 pub returns-then-is_empty-clause-grows : goal.returns-then-is_empty-clause-grows
-returns-then-is_empty-clause-grows g c = no_heavier _ (g.B.Backing.state c.args.backing.now) (g.B.Backing.state c.plan.new.backing) c.args.kept.now c.args.kept.now c.plan.ensures.looks.goes (omega arith)
+returns-then-is_empty-clause-grows g c = grows_looked c.plan.ensures.looks _ c.args.kept.now
 
 pub returns-then-lacks_orphan_room-clause-grows : goal.returns-then-lacks_orphan_room-clause-grows
-returns-then-lacks_orphan_room-clause-grows g c = no_heavier _ (g.B.Backing.state c.args.backing.now) (g.B.Backing.state c.plan.new.backing) c.args.kept.now c.args.kept.now c.plan.ensures.looks.goes (omega arith)
+returns-then-lacks_orphan_room-clause-grows g c = grows_looked c.plan.ensures.looks _ c.args.kept.now
 
 pub returns-in_err-need-clause-grows : goal.returns-in_err-need-clause-grows
 returns-in_err-need-clause-grows g c =
-    let none = no_heavier 0 (g.B.Backing.state c.args.backing.now) (g.B.Backing.state c.need_of.new.backing) c.args.kept.now c.args.kept.now (both c.plan.ensures.looks c.need_of.ensures.looks).goes (omega arith) in
-    omega (arith, none)
+    let n = length (group_of (present (g.B.Backing.state c.args.backing.now).tree c.args.kept.now) c.args.caller c.args.now c.args.op.now) in
+    let none = never {T = Reply} n (max 2 n) (Err c.in_err-need.field-0.0) (g.B.Backing.state c.args.backing.now) (g.B.Backing.state c.need_of.new.backing) c.args.kept.now c.args.kept.now (grows_looked (both c.plan.ensures.looks c.need_of.ensures.looks) 0 c.args.kept.now) in
+    search (rules, none)
 
 pub returns-in_err-apply_group-clause-grows : goal.returns-in_err-apply_group-clause-grows
 returns-in_err-apply_group-clause-grows g c =
@@ -304,7 +308,7 @@ returns-in_err-apply_group-clause-grows g c =
     let made = group_is files c.args.caller c.args.now c.args.op.now c.in_ok-reply.reply c.in_ok-reply.group c.in_ok-reply.ensures.found in
     let n : length (group_of files c.args.caller c.args.now c.args.op.now) ≡ length c.in_ok-reply.group = ap (λ (group : List Change). length group) made in
     let put = after_look (added_or_refused {T = Unit {0}} (length c.in_ok-reply.group) (max 2 (length c.in_ok-reply.group)) (Err c.in_err-apply_group.field-0.0)) (g.B.Backing.state c.args.backing.now) (g.B.Backing.state c.need_of.new.backing) (g.B.Backing.state c.apply_group.new.backing) c.args.kept.now c.apply_group.new.kept (both c.plan.ensures.looks c.need_of.ensures.looks).goes c.in_err-apply_group.ensures.grows in
-    let f = refused_wider (Unit {0}) Reply (length c.in_ok-reply.group) (length (group_of files c.args.caller c.args.now c.args.op.now)) (max 2 (length c.in_ok-reply.group)) (max 2 (length (group_of files c.args.caller c.args.now c.args.op.now))) c.in_err-apply_group.field-0.0 (g.B.Backing.state c.args.backing.now) (g.B.Backing.state c.apply_group.new.backing) c.args.kept.now c.apply_group.new.kept (omega (arith, n)) put in
+    let f = refused_wider (Unit {0}) Reply (length c.in_ok-reply.group) (length (group_of files c.args.caller c.args.now c.args.op.now)) (max 2 (length c.in_ok-reply.group)) (max 2 (length (group_of files c.args.caller c.args.now c.args.op.now))) c.in_err-apply_group.field-0.0 (g.B.Backing.state c.args.backing.now) (g.B.Backing.state c.apply_group.new.backing) c.args.kept.now c.apply_group.new.kept (subst (λ (k : ℕ). max 2 (length c.in_ok-reply.group) ≤ max 2 k) (sym n) (no_more (max 2 (length c.in_ok-reply.group)))) put in
     search (rules, f)
 
 pub returns-clause-grows : goal.returns-clause-grows
@@ -313,25 +317,25 @@ returns-clause-grows g c =
     let made = group_is files c.args.caller c.args.now c.args.op.now c.in_ok-reply.reply c.in_ok-reply.group c.in_ok-reply.ensures.found in
     let n : length (group_of files c.args.caller c.args.now c.args.op.now) ≡ length c.in_ok-reply.group = ap (λ (group : List Change). length group) made in
     let put = after_look (length c.in_ok-reply.group) (g.B.Backing.state c.args.backing.now) (g.B.Backing.state c.need_of.new.backing) (g.B.Backing.state c.apply_group.new.backing) c.args.kept.now c.apply_group.new.kept (both c.plan.ensures.looks c.need_of.ensures.looks).goes c.in_ok-apply_group.ensures.grows in
-    omega (arith, n, put)
+    subst (λ (k : ℕ). GrowsBy k (g.B.Backing.state c.args.backing.now) (g.B.Backing.state c.apply_group.new.backing) c.args.kept.now c.apply_group.new.kept) (sym n) put
 
 pub returns-in_err-reply-clause-closed : goal.returns-in_err-reply-clause-closed
-returns-in_err-reply-clause-closed g c = let same = closed_on c.plan.ensures.looks in omega (arith, same)
+returns-in_err-reply-clause-closed g c = closed_few c.plan.ensures.looks
 
 pub returns-then-is_empty-clause-closed : goal.returns-then-is_empty-clause-closed
-returns-then-is_empty-clause-closed g c = let same = closed_on c.plan.ensures.looks in omega (arith, same)
+returns-then-is_empty-clause-closed g c = closed_few c.plan.ensures.looks
 
 pub returns-then-lacks_orphan_room-clause-closed : goal.returns-then-lacks_orphan_room-clause-closed
-returns-then-lacks_orphan_room-clause-closed g c = let same = closed_on c.plan.ensures.looks in omega (arith, same)
+returns-then-lacks_orphan_room-clause-closed g c = closed_few c.plan.ensures.looks
 
 pub returns-in_err-need-clause-closed : goal.returns-in_err-need-clause-closed
-returns-in_err-need-clause-closed g c = let same = closed_on (both c.plan.ensures.looks c.need_of.ensures.looks) in omega (arith, same)
+returns-in_err-need-clause-closed g c = closed_few (both c.plan.ensures.looks c.need_of.ensures.looks)
 
 pub returns-in_err-apply_group-clause-closed : goal.returns-in_err-apply_group-clause-closed
-returns-in_err-apply_group-clause-closed g c = let same = closed_on (both c.plan.ensures.looks c.need_of.ensures.looks) in let few = c.apply_group.ensures.closed in omega (arith, same, few)
+returns-in_err-apply_group-clause-closed g c = closed_then (both c.plan.ensures.looks c.need_of.ensures.looks) (g.B.Backing.state c.apply_group.new.backing) c.apply_group.ensures.closed
 
 pub returns-clause-closed : goal.returns-clause-closed
-returns-clause-closed g c = let same = closed_on (both c.plan.ensures.looks c.need_of.ensures.looks) in let few = c.apply_group.ensures.closed in omega (arith, same, few)
+returns-clause-closed g c = closed_then (both c.plan.ensures.looks c.need_of.ensures.looks) (g.B.Backing.state c.apply_group.new.backing) c.apply_group.ensures.closed
 
 pub returns-in_err-reply-clause-cut : goal.returns-in_err-reply-clause-cut
 returns-in_err-reply-clause-cut g c =
@@ -369,3 +373,140 @@ returns-clause-cut g c =
     let files = present old.tree c.args.kept.now in
     let made = group_is files c.args.caller c.args.now c.args.op.now c.in_ok-reply.reply c.in_ok-reply.group c.in_ok-reply.ensures.found in
     looked_put (both c.plan.ensures.looks c.need_of.ensures.looks) new c.args.kept.now (group_of files c.args.caller c.args.now c.args.op.now) c.in_ok-reply.group WasPut made c.in_ok-apply_group.ensures.cut
+
+pub need_of-requires-clause-kept : goal.need_of-requires-clause-kept
+need_of-requires-clause-kept g c = kept_on c.plan.ensures.looks c.args.kept.now c.requires.kept
+
+pub apply_group-requires-clause-kept : goal.apply_group-requires-clause-kept
+apply_group-requires-clause-kept g c = kept_on (both c.plan.ensures.looks c.need_of.ensures.looks) c.args.kept.now c.requires.kept
+
+pub apply_group-requires-clause-paid : goal.apply_group-requires-clause-paid
+apply_group-requires-clause-paid g c = paid_on (both c.plan.ensures.looks c.need_of.ensures.looks) (length c.args.kept.now.pages.dirty) c.requires.paid
+
+pub apply_group-requires-clause-credits : goal.apply_group-requires-clause-credits
+apply_group-requires-clause-credits g c = ap (λ (need : Need). need.credits) c.in_ok-need.ensures.need
+
+pub returns-in_err-reply-clause-kept : goal.returns-in_err-reply-clause-kept
+returns-in_err-reply-clause-kept g c = kept_on c.plan.ensures.looks c.args.kept.now c.requires.kept
+
+pub returns-in_err-reply-clause-paid : goal.returns-in_err-reply-clause-paid
+returns-in_err-reply-clause-paid g c = paid_on c.plan.ensures.looks (length c.args.kept.now.pages.dirty) c.requires.paid
+
+pub returns-in_err-reply-clause-issued : goal.returns-in_err-reply-clause-issued
+returns-in_err-reply-clause-issued g c = issued_on c.plan.ensures.looks (length c.args.kept.now.pages.dirty)
+
+pub returns-in_err-reply-clause-sure : goal.returns-in_err-reply-clause-sure
+returns-in_err-reply-clause-sure g c = c.plan.ensures.looks.sure
+
+pub returns-in_err-reply-clause-goes : goal.returns-in_err-reply-clause-goes
+returns-in_err-reply-clause-goes g c = goes_looked c.plan.ensures.looks _
+
+pub returns-in_err-reply-clause-same : goal.returns-in_err-reply-clause-same
+returns-in_err-reply-clause-same g c = let same = same_on c.plan.ensures.looks c.args.kept.now in search (rules, same)
+
+pub returns-then-is_empty-clause-kept : goal.returns-then-is_empty-clause-kept
+returns-then-is_empty-clause-kept g c = kept_on c.plan.ensures.looks c.args.kept.now c.requires.kept
+
+pub returns-then-is_empty-clause-paid : goal.returns-then-is_empty-clause-paid
+returns-then-is_empty-clause-paid g c = paid_on c.plan.ensures.looks (length c.args.kept.now.pages.dirty) c.requires.paid
+
+pub returns-then-is_empty-clause-issued : goal.returns-then-is_empty-clause-issued
+returns-then-is_empty-clause-issued g c = issued_on c.plan.ensures.looks (length c.args.kept.now.pages.dirty)
+
+pub returns-then-is_empty-clause-sure : goal.returns-then-is_empty-clause-sure
+returns-then-is_empty-clause-sure g c = c.plan.ensures.looks.sure
+
+pub returns-then-is_empty-clause-goes : goal.returns-then-is_empty-clause-goes
+returns-then-is_empty-clause-goes g c = goes_looked c.plan.ensures.looks _
+
+pub returns-then-lacks_orphan_room-clause-kept : goal.returns-then-lacks_orphan_room-clause-kept
+returns-then-lacks_orphan_room-clause-kept g c = kept_on c.plan.ensures.looks c.args.kept.now c.requires.kept
+
+pub returns-then-lacks_orphan_room-clause-paid : goal.returns-then-lacks_orphan_room-clause-paid
+returns-then-lacks_orphan_room-clause-paid g c = paid_on c.plan.ensures.looks (length c.args.kept.now.pages.dirty) c.requires.paid
+
+pub returns-then-lacks_orphan_room-clause-issued : goal.returns-then-lacks_orphan_room-clause-issued
+returns-then-lacks_orphan_room-clause-issued g c = issued_on c.plan.ensures.looks (length c.args.kept.now.pages.dirty)
+
+pub returns-then-lacks_orphan_room-clause-sure : goal.returns-then-lacks_orphan_room-clause-sure
+returns-then-lacks_orphan_room-clause-sure g c = c.plan.ensures.looks.sure
+
+pub returns-then-lacks_orphan_room-clause-goes : goal.returns-then-lacks_orphan_room-clause-goes
+returns-then-lacks_orphan_room-clause-goes g c = goes_looked c.plan.ensures.looks _
+
+pub returns-in_err-need-clause-kept : goal.returns-in_err-need-clause-kept
+returns-in_err-need-clause-kept g c = kept_on (both c.plan.ensures.looks c.need_of.ensures.looks) c.args.kept.now c.requires.kept
+
+pub returns-in_err-need-clause-paid : goal.returns-in_err-need-clause-paid
+returns-in_err-need-clause-paid g c = paid_on (both c.plan.ensures.looks c.need_of.ensures.looks) (length c.args.kept.now.pages.dirty) c.requires.paid
+
+pub returns-in_err-need-clause-issued : goal.returns-in_err-need-clause-issued
+returns-in_err-need-clause-issued g c = issued_on (both c.plan.ensures.looks c.need_of.ensures.looks) (length c.args.kept.now.pages.dirty)
+
+pub returns-in_err-need-clause-sure : goal.returns-in_err-need-clause-sure
+returns-in_err-need-clause-sure g c = (both c.plan.ensures.looks c.need_of.ensures.looks).sure
+
+pub returns-in_err-need-clause-same : goal.returns-in_err-need-clause-same
+returns-in_err-need-clause-same g c = let same = same_on (both c.plan.ensures.looks c.need_of.ensures.looks) c.args.kept.now in search (rules, same)
+
+pub returns-then-lacks_orphan_room-clause-same : goal.returns-then-lacks_orphan_room-clause-same
+returns-then-lacks_orphan_room-clause-same g c = same_on c.plan.ensures.looks c.args.kept.now
+
+pub returns-then-lacks_orphan_room-clause-sound : goal.returns-then-lacks_orphan_room-clause-sound
+returns-then-lacks_orphan_room-clause-sound g c = sound_on (g.B.Backing.state c.plan.new.backing).tree (g.B.Backing.state c.args.backing.now).tree c.args.kept.now (tree_on c.plan.ensures.looks) c.requires.sound
+
+pub returns-then-is_empty-clause-early : goal.returns-then-is_empty-clause-early
+returns-then-is_empty-clause-early g c early = absurd early
+
+pub returns-clause-early : goal.returns-clause-early
+returns-clause-early g c early = absurd early
+
+pub returns-in_err-apply_group-clause-kept : goal.returns-in_err-apply_group-clause-kept
+returns-in_err-apply_group-clause-kept g c = c.apply_group.ensures.kept
+
+pub returns-in_err-apply_group-clause-paid : goal.returns-in_err-apply_group-clause-paid
+returns-in_err-apply_group-clause-paid g c = c.apply_group.ensures.paid
+
+pub returns-in_err-apply_group-clause-issued : goal.returns-in_err-apply_group-clause-issued
+returns-in_err-apply_group-clause-issued g c = issued_then (both c.plan.ensures.looks c.need_of.ensures.looks) (g.B.Backing.state c.apply_group.new.backing) (length c.args.kept.now.pages.dirty) (length c.apply_group.new.kept.pages.dirty) c.apply_group.ensures.issued
+
+pub returns-in_err-apply_group-clause-sure : goal.returns-in_err-apply_group-clause-sure
+returns-in_err-apply_group-clause-sure g c = sure_then (both c.plan.ensures.looks c.need_of.ensures.looks) (g.B.Backing.outlook c.apply_group.new.backing) (g.B.Backing.state c.apply_group.new.backing) c.apply_group.ensures.sure
+
+pub returns-clause-kept : goal.returns-clause-kept
+returns-clause-kept g c = c.apply_group.ensures.kept
+
+pub returns-clause-paid : goal.returns-clause-paid
+returns-clause-paid g c = c.apply_group.ensures.paid
+
+pub returns-clause-issued : goal.returns-clause-issued
+returns-clause-issued g c = issued_then (both c.plan.ensures.looks c.need_of.ensures.looks) (g.B.Backing.state c.apply_group.new.backing) (length c.args.kept.now.pages.dirty) (length c.apply_group.new.kept.pages.dirty) c.apply_group.ensures.issued
+
+pub returns-clause-sure : goal.returns-clause-sure
+returns-clause-sure g c = sure_then (both c.plan.ensures.looks c.need_of.ensures.looks) (g.B.Backing.outlook c.apply_group.new.backing) (g.B.Backing.state c.apply_group.new.backing) c.apply_group.ensures.sure
+
+pub returns-in_err-apply_group-clause-same : goal.returns-in_err-apply_group-clause-same
+returns-in_err-apply_group-clause-same g c =
+    let last = present (g.B.Backing.state c.apply_group.new.backing).tree c.apply_group.new.kept in
+    let same = same_then (both c.plan.ensures.looks c.need_of.ensures.looks) c.args.kept.now last c.in_err-apply_group.ensures.same in
+    search (rules, same)
+
+pub returns-in_err-need-clause-at_once : goal.returns-in_err-need-clause-at_once
+returns-in_err-need-clause-at_once g c done out room =
+    let never = fault_at_once Reply (g.B.Backing.state c.plan.new.backing) (g.B.Backing.state c.need_of.new.backing) c.in_err-need.field-0.0 c.in_err-need.ensures.refused in
+    search (rules, never)
+
+pub returns-in_err-need-clause-refused : goal.returns-in_err-need-clause-refused
+returns-in_err-need-clause-refused g c =
+    let old = g.B.Backing.state c.args.backing.now in
+    let files = present old.tree c.args.kept.now in
+    let plain = within_orphans (orphan_room old) old.orphan_limit files (outcome_of files c.args.caller c.args.now c.args.op.now) in
+    let refused = fault_turned c.plan.ensures.looks (g.B.Backing.state c.need_of.new.backing) c.args.kept.now (need_of files c.args.caller c.args.now c.args.op.now) plain c.in_err-need.field-0.0 c.in_err-need.ensures.refused in
+    search (rules, refused)
+
+pub returns-in_err-reply-clause-refused : goal.returns-in_err-reply-clause-refused
+returns-in_err-reply-clause-refused g c =
+    let old = g.B.Backing.state c.args.backing.now in
+    let files = present old.tree c.args.kept.now in
+    let refused = plan_turned old (g.B.Backing.state c.plan.new.backing) c.args.kept.now (need_of files c.args.caller c.args.now c.args.op.now) files c.args.caller c.args.now (orphan_room old) old.orphan_limit c.args.op.now c.in_err-reply.field-0.0 c.requires.op c.in_err-reply.ensures.refused in
+    search (rules, refused)

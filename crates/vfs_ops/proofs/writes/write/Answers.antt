@@ -1,13 +1,17 @@
-use Rattle.std.proofs.Common.{◌≡◌, ℕ, ◌*◌, length, inl, sym, subst, refl, ◌∙◌, arith, Some, rules}
+use Rattle.std.proofs.Common.{◌≡◌, ℕ, ◌*◌, length, inl, sym, refl, ◌∙◌, arith, Some, Ok, Err, rules}
 use Rattle.fs_model.specs.declared.reply.Reply.TheVariants.{Count}
 use Rattle.fs_model.specs.Files.{Files, handle_at}
 use Rattle.fs_model.specs.Handles.{bytes_written, tree_written}
+use Rattle.buffered_files.specs.CallLaws.{Sure-none}
 use Rattle.buffered_files.specs.Present.{present}
-use Rattle.vfs_ops.specs.Writing.{WasPaid, write_need}
+use Rattle.vfs_ops.specs.Writing.{HasRoom, IsBuffered, WasPaid, write_need}
 use Rattle.vfs_ops.proofs.Cutting.{cut_same}
 use Rattle.vfs_ops.proofs.Admitted.{none_new}
-use Rattle.vfs_ops.proofs.Buffering.{at_hand, bad_len, bad_slot, none_written, open_file, some_written, sound_written, too_far}
-use Rattle.vfs_ops.proofs.Looking.{either_late, none_left, write_left}
+use Rattle.vfs_ops.proofs.Buffering.{at_hand, bad_len, bad_slot, buffered_err, none_dirty, none_written, open_file, some_written, sound_written, too_far, unopened}
+use Rattle.vfs_ops.proofs.Flushing.{same_open}
+use Rattle.vfs_ops.proofs.Held.{goes_none, grows_none, no_more}
+use Rattle.vfs_ops.proofs.Looking.{either_late, none_left, same_looks, write_left}
+use Rattle.vfs_ops.proofs.Serving.{alike_self}
 use Rattle.vfs_ops.proofs.Takes.{alike_on, alike_sound, last_done, refused_last}
 use Rattle.fs_model.specs.declared.reply.Reply.{Reply}
 use Rattle.fs_model.specs.Files.{pages_of}
@@ -88,9 +92,7 @@ returns-then-len-eq0-clause-admitted g c ino found = inl (none_new c.args.kept.n
 
 pub returns-clause-admitted : goal.returns-clause-admitted
 returns-clause-admitted g c ino found =
-    let one : Some c.in-Some.ino ≡ Some ino = sym (sym c.get.ensures ∙ c.in-Some.is) ∙ found in
-    let same : c.in-Some.ino ≡ ino = cc one in
-    subst (λ i. WasPaid (g.B.Backing.state c.args.backing.now) (g.B.Backing.state c.write_some.new.backing) c.args.kept.now i c.args.offs c.args.len c.args.grant) same c.in_ok-left.ensures.admitted
+    same_open (λ i. WasPaid (g.B.Backing.state c.args.backing.now) (g.B.Backing.state c.write_some.new.backing) c.args.kept.now i c.args.offs c.args.len c.args.grant) _ c.in-Some.ino ino (sym c.get.ensures ∙ c.in-Some.is) found c.in_ok-left.ensures.admitted
 
 pub returns-then-len-eq0-clause-left : goal.returns-then-len-eq0-clause-left
 returns-then-len-eq0-clause-left g c = none_left c.args.kept.now c.args.caller c.args.grant c.args.slot c.args.offs c.args.len c.args.byte c.if-len-eq0.true
@@ -108,7 +110,7 @@ returns-in_err-left-clause-early g c =
 pub returns-in_err-left-clause-grows : goal.returns-in_err-left-clause-grows
 returns-in_err-left-clause-grows g c =
     let n = 2 * length (pages_of c.args.offs c.args.len) in
-    let f = refused_wider ℕ (Reply × ℕ) n n 2 2 c.in_err-left.field-0.0 (g.B.Backing.state c.args.backing.now) (g.B.Backing.state c.write_some.new.backing) c.args.kept.now c.write_some.new.kept (omega arith) c.in_err-left.ensures.grows in
+    let f = refused_wider ℕ (Reply × ℕ) n n 2 2 c.in_err-left.field-0.0 (g.B.Backing.state c.args.backing.now) (g.B.Backing.state c.write_some.new.backing) c.args.kept.now c.write_some.new.kept (no_more 2) c.in_err-left.ensures.grows in
     search (rules, f)
 
 pub returns-then-is_bad_slot-clause-cut : goal.returns-then-is_bad_slot-clause-cut
@@ -125,3 +127,128 @@ returns-then-ends_too_far-clause-cut g c = cut_same (g.B.Backing.state c.args.ba
 
 pub returns-then-len-eq0-clause-cut : goal.returns-then-len-eq0-clause-cut
 returns-then-len-eq0-clause-cut g c = cut_same (g.B.Backing.state c.args.backing.now) (g.B.Backing.state c.args.backing.now) c.args.kept.now refl
+
+pub returns-then-is_bad_slot-clause-goes : goal.returns-then-is_bad_slot-clause-goes
+returns-then-is_bad_slot-clause-goes g c = goes_none _ (g.B.Backing.state c.args.backing.now)
+
+pub returns-then-is_bad_slot-clause-grows : goal.returns-then-is_bad_slot-clause-grows
+returns-then-is_bad_slot-clause-grows g c = grows_none 0 (g.B.Backing.state c.args.backing.now) c.args.kept.now
+
+pub returns-then-is_bad_slot-clause-sure : goal.returns-then-is_bad_slot-clause-sure
+returns-then-is_bad_slot-clause-sure g c = Sure-none (g.B.Backing.outlook c.args.backing.now) (g.B.Backing.state c.args.backing.now)
+
+pub returns-then-is_bad_slot-clause-closed : goal.returns-then-is_bad_slot-clause-closed
+returns-then-is_bad_slot-clause-closed g c = no_more (g.B.Backing.state c.args.backing.now).closed
+
+pub returns-then-is_bad_slot-clause-early : goal.returns-then-is_bad_slot-clause-early
+returns-then-is_bad_slot-clause-early g c early = same_looks (g.B.Backing.state c.args.backing.now) (g.B.Backing.state c.args.backing.now) c.args.kept.now c.args.kept.now refl refl
+
+pub returns-then-is_bad_slot-clause-same : goal.returns-then-is_bad_slot-clause-same
+returns-then-is_bad_slot-clause-same g c = alike_self (present (g.B.Backing.state c.args.backing.now).tree c.args.kept.now)
+
+pub returns-then-is_bad_slot-clause-buffered : goal.returns-then-is_bad_slot-clause-buffered
+returns-then-is_bad_slot-clause-buffered g c ino found room = record { geometry = refl; tree = refl; journal = refl; room = tt; dirty = tt; refused = refl }
+
+pub returns-then-is_bad_len-clause-goes : goal.returns-then-is_bad_len-clause-goes
+returns-then-is_bad_len-clause-goes g c = goes_none _ (g.B.Backing.state c.args.backing.now)
+
+pub returns-then-is_bad_len-clause-grows : goal.returns-then-is_bad_len-clause-grows
+returns-then-is_bad_len-clause-grows g c = grows_none 0 (g.B.Backing.state c.args.backing.now) c.args.kept.now
+
+pub returns-then-is_bad_len-clause-sure : goal.returns-then-is_bad_len-clause-sure
+returns-then-is_bad_len-clause-sure g c = Sure-none (g.B.Backing.outlook c.args.backing.now) (g.B.Backing.state c.args.backing.now)
+
+pub returns-then-is_bad_len-clause-closed : goal.returns-then-is_bad_len-clause-closed
+returns-then-is_bad_len-clause-closed g c = no_more (g.B.Backing.state c.args.backing.now).closed
+
+pub returns-then-is_bad_len-clause-early : goal.returns-then-is_bad_len-clause-early
+returns-then-is_bad_len-clause-early g c early = same_looks (g.B.Backing.state c.args.backing.now) (g.B.Backing.state c.args.backing.now) c.args.kept.now c.args.kept.now refl refl
+
+pub returns-then-is_bad_len-clause-same : goal.returns-then-is_bad_len-clause-same
+returns-then-is_bad_len-clause-same g c = alike_self (present (g.B.Backing.state c.args.backing.now).tree c.args.kept.now)
+
+pub returns-then-is_bad_len-clause-buffered : goal.returns-then-is_bad_len-clause-buffered
+returns-then-is_bad_len-clause-buffered g c ino found room = record { geometry = refl; tree = refl; journal = refl; room = tt; dirty = tt; refused = refl }
+
+pub returns-in_default-clause-goes : goal.returns-in_default-clause-goes
+returns-in_default-clause-goes g c = goes_none _ (g.B.Backing.state c.args.backing.now)
+
+pub returns-in_default-clause-grows : goal.returns-in_default-clause-grows
+returns-in_default-clause-grows g c = grows_none 0 (g.B.Backing.state c.args.backing.now) c.args.kept.now
+
+pub returns-in_default-clause-sure : goal.returns-in_default-clause-sure
+returns-in_default-clause-sure g c = Sure-none (g.B.Backing.outlook c.args.backing.now) (g.B.Backing.state c.args.backing.now)
+
+pub returns-in_default-clause-closed : goal.returns-in_default-clause-closed
+returns-in_default-clause-closed g c = no_more (g.B.Backing.state c.args.backing.now).closed
+
+pub returns-in_default-clause-early : goal.returns-in_default-clause-early
+returns-in_default-clause-early g c early = same_looks (g.B.Backing.state c.args.backing.now) (g.B.Backing.state c.args.backing.now) c.args.kept.now c.args.kept.now refl refl
+
+pub returns-in_default-clause-same : goal.returns-in_default-clause-same
+returns-in_default-clause-same g c = alike_self (present (g.B.Backing.state c.args.backing.now).tree c.args.kept.now)
+
+pub returns-in_default-clause-buffered : goal.returns-in_default-clause-buffered
+returns-in_default-clause-buffered g c ino found room = record { geometry = refl; tree = refl; journal = refl; room = tt; dirty = tt; refused = refl }
+
+pub returns-then-ends_too_far-clause-goes : goal.returns-then-ends_too_far-clause-goes
+returns-then-ends_too_far-clause-goes g c = goes_none _ (g.B.Backing.state c.args.backing.now)
+
+pub returns-then-ends_too_far-clause-grows : goal.returns-then-ends_too_far-clause-grows
+returns-then-ends_too_far-clause-grows g c = grows_none 0 (g.B.Backing.state c.args.backing.now) c.args.kept.now
+
+pub returns-then-ends_too_far-clause-sure : goal.returns-then-ends_too_far-clause-sure
+returns-then-ends_too_far-clause-sure g c = Sure-none (g.B.Backing.outlook c.args.backing.now) (g.B.Backing.state c.args.backing.now)
+
+pub returns-then-ends_too_far-clause-closed : goal.returns-then-ends_too_far-clause-closed
+returns-then-ends_too_far-clause-closed g c = no_more (g.B.Backing.state c.args.backing.now).closed
+
+pub returns-then-ends_too_far-clause-early : goal.returns-then-ends_too_far-clause-early
+returns-then-ends_too_far-clause-early g c early = same_looks (g.B.Backing.state c.args.backing.now) (g.B.Backing.state c.args.backing.now) c.args.kept.now c.args.kept.now refl refl
+
+pub returns-then-ends_too_far-clause-same : goal.returns-then-ends_too_far-clause-same
+returns-then-ends_too_far-clause-same g c = alike_self (present (g.B.Backing.state c.args.backing.now).tree c.args.kept.now)
+
+pub returns-then-ends_too_far-clause-buffered : goal.returns-then-ends_too_far-clause-buffered
+returns-then-ends_too_far-clause-buffered g c ino found room = record { geometry = refl; tree = refl; journal = refl; room = tt; dirty = tt; refused = refl }
+
+pub returns-then-len-eq0-clause-goes : goal.returns-then-len-eq0-clause-goes
+returns-then-len-eq0-clause-goes g c = goes_none _ (g.B.Backing.state c.args.backing.now)
+
+pub returns-then-len-eq0-clause-grows : goal.returns-then-len-eq0-clause-grows
+returns-then-len-eq0-clause-grows g c = grows_none (2 * length (pages_of c.args.offs c.args.len)) (g.B.Backing.state c.args.backing.now) c.args.kept.now
+
+pub returns-then-len-eq0-clause-sure : goal.returns-then-len-eq0-clause-sure
+returns-then-len-eq0-clause-sure g c = Sure-none (g.B.Backing.outlook c.args.backing.now) (g.B.Backing.state c.args.backing.now)
+
+pub returns-then-len-eq0-clause-closed : goal.returns-then-len-eq0-clause-closed
+returns-then-len-eq0-clause-closed g c = no_more (g.B.Backing.state c.args.backing.now).closed
+
+pub returns-then-len-eq0-clause-early : goal.returns-then-len-eq0-clause-early
+returns-then-len-eq0-clause-early g c early = absurd early
+
+pub returns-then-len-eq0-clause-buffered : goal.returns-then-len-eq0-clause-buffered
+returns-then-len-eq0-clause-buffered g c ino found room = record { geometry = refl; tree = refl; journal = refl; room = tt; dirty = none_dirty c.args.kept.now.pages.dirty ino c.args.offs c.args.len c.if-len-eq0.true; refused = tt }
+
+pub returns-in_default-clause-refused : goal.returns-in_default-clause-refused
+returns-in_default-clause-refused g c = inl (inl (unopened (present (g.B.Backing.state c.args.backing.now).tree c.args.kept.now) c.args.caller c.args.now c.args.slot c.args.offs c.args.len c.args.byte (sym c.is_bad_slot.ensures ∙ c.if-is_bad_slot.false) (sym c.is_bad_len.ensures ∙ c.if-is_bad_len.false) (sym c.get.ensures ∙ c.in_default.is)))
+
+pub returns-clause-early : goal.returns-clause-early
+returns-clause-early g c early = absurd early
+
+pub returns-in_err-left-clause-same : goal.returns-in_err-left-clause-same
+returns-in_err-left-clause-same g c = let same = c.in_err-left.ensures.same in search (rules, same)
+
+pub returns-in_err-left-clause-still_issued : goal.returns-in_err-left-clause-still_issued
+returns-in_err-left-clause-still_issued g c = let same = c.in_err-left.ensures.still_issued in search (rules, same)
+
+pub returns-in_err-left-clause-buffered : goal.returns-in_err-left-clause-buffered
+returns-in_err-left-clause-buffered g c ino found room =
+    let there = same_open (λ i. HasRoom (g.B.Backing.state c.args.backing.now) c.args.kept.now i c.args.offs c.args.len c.args.grant → IsBuffered {T = ℕ} (g.B.Backing.state c.args.backing.now) (g.B.Backing.state c.write_some.new.backing) c.args.kept.now c.write_some.new.kept i c.args.offs c.args.len (Err c.in_err-left.field-0.0)) _ c.in-Some.ino ino (sym c.get.ensures ∙ c.in-Some.is) found c.in_err-left.ensures.buffered room in
+    let buffered = buffered_err ℕ (Reply × ℕ) (g.B.Backing.state c.args.backing.now) (g.B.Backing.state c.write_some.new.backing) c.args.kept.now c.write_some.new.kept ino c.args.offs c.args.len c.in_err-left.field-0.0 there in
+    search (rules, buffered)
+
+pub returns-clause-buffered : goal.returns-clause-buffered
+returns-clause-buffered g c ino found room =
+    let there = same_open (λ i. HasRoom (g.B.Backing.state c.args.backing.now) c.args.kept.now i c.args.offs c.args.len c.args.grant → IsBuffered {T = ℕ} (g.B.Backing.state c.args.backing.now) (g.B.Backing.state c.write_some.new.backing) c.args.kept.now c.write_some.new.kept i c.args.offs c.args.len (Ok c.in_ok-left.left)) _ c.in-Some.ino ino (sym c.get.ensures ∙ c.in-Some.is) found c.in_ok-left.ensures.buffered room in
+    record { geometry = there.geometry; tree = there.tree; journal = there.journal; room = tt; dirty = there.dirty; refused = tt }
